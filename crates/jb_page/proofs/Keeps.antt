@@ -11,7 +11,7 @@ use Rattle.crossbeam_queue.proofs.Lists.{at_set}
 use Rattle.jb_page.specs.declared.page.Page.{Page}
 use Rattle.jb_page.specs.declared.view.Row.{Row}
 use Rattle.jb_page.specs.declared.view.View.{View}
-use Rattle.jb_page.specs.Rows.{Has, pages_of, row, view_of, head_row, other_rows, blank, maker, or_none, either_of, older, newcomer, with_row, row_with_put, with_put, row_with_taken, with_taken, ordered, joined, senders, Waits, Accounts, Whole}
+use Rattle.jb_page.specs.Rows.{Has, pages_of, row, view_of, head_row, other_rows, blank, maker, or_none, either_of, older, newcomer, with_row, row_with_put, with_put, row_with_taken, with_taken, ordered, joined, senders, Accounts, Whole}
 use Rattle.jb_page.specs.Seats.{HasAll}
 use Rattle.jb_page.specs.Rule.{IsMade, IsSeat, Queued}
 
@@ -135,10 +135,6 @@ pushes n port v x one from items views _ q at =
       },
       refl,
     )
-
-pub waits : (port : ℕ) (v : View) → IsOne v → Learns Queued port v (Waits v)
-waits port v one items views q at = let r = head_row v.rows in
-    (pages_of r.pager q.taken, sym (filter-append (λ (p : Page). p.from == r.pager) q.taken items) ∙ (q.each port v at).sent r (has_head v one))
 
 -- what holds of the first row and of each other
 first_row : (P : Row → Type 0) (v : View) (r q : Row) → P r → ((z : Row) → Has (other_rows v.rows) z → P z) → Has (with_row v r).rows q → P q
@@ -306,7 +302,7 @@ pub head_longer : (xs ys : List Row) → 0 < length xs → head_row (xs ++ ys) �
 head_longer [] ys h = absurd (omega arith)
 head_longer (x ∷ xs) ys h = refl
 
-has_ordered : (b : Bool) (xs ys : List Row) (z : Row) → Has (ordered b xs ys) z → Has xs z ⊎ Has ys z
+pub has_ordered : (b : Bool) (xs ys : List Row) (z : Row) → Has (ordered b xs ys) z → Has xs z ⊎ Has ys z
 has_ordered true xs ys z h = ⊎_elim (λ (t : Has ys z). inr t) (λ (t : Has xs z). inl t) (has_either ys xs z h)
 has_ordered false xs ys z h = has_either xs ys z h
 
@@ -376,7 +372,7 @@ merges port v other w some_row one items views q at two at' =
       unmade = q.unmade;
     }
 
-has_sender : (rows : List Row) (s : ℕ × List Page) → Has (senders rows) s → (r : Row) × Has rows r × ((r.pager, r.sent) ≡ s)
+pub has_sender : (rows : List Row) (s : ℕ × List Page) → Has (senders rows) s → (r : Row) × Has rows r × ((r.pager, r.sent) ≡ s)
 has_sender [] s h = absurd (none_has s h)
 has_sender (r ∷ rs) s (zero, e) = (r, (0, refl), some-injective (r.pager, r.sent) s e)
 has_sender (r ∷ rs) s (suc k, e) = let h = has_sender rs s (k, e) in (h.0, (suc h.1.0, h.1.1), h.2)

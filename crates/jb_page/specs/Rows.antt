@@ -104,10 +104,6 @@ ordered false xs ys = xs ++ ys
 abbrev pub joined : View → View → View
 joined v w = view_of (either_of v.made w.made) (v.takes || w.takes) (ordered w.takes v.rows w.rows)
 
--- the queue still holds the last of the pages that the first row sent, and no other page of that pager
-abbrev pub Waits : View → List Page → Type 0
-Waits v items = (gone : List Page) × (gone ++ pages_of (head_row v.rows).pager items ≡ (head_row v.rows).sent)
-
 -- what each pager of the view sent is what was taken with this pass, and then what the queue holds
 abbrev pub Accounts : View → List Page → Type 0
 Accounts v items = (r : Row) → Has v.rows r → pages_of r.pager ((head_row v.rows).taken ++ items) ≡ r.sent

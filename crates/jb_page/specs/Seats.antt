@@ -1,6 +1,5 @@
--- What contracts see of a queue and of a hand.
-use Rattle.std.specs.Prelude.{◌≡◌, ℕ, List, [], ◌∷◌, ◌++◌, Bool, false, length, Option, Some, None, MatchBool, MatchOption}
-use Rattle.atomic_table.specs.Seated.{TableId}
+-- What is seen of a queue and of a hand, and what each step does to a hand.
+use Rattle.std.specs.Prelude.{◌≡◌, ◌≤◌, ℕ, List, [], ◌∷◌, ◌++◌, length, Bool, Option, Some, None, MatchBool, MatchOption}
 use Rattle.crossbeam_queue.specs.Passes.{view}
 use Rattle.jb_page.specs.declared.page.Page.{Page}
 use Rattle.jb_page.specs.declared.view.Row.{Row}
@@ -9,10 +8,7 @@ use Rattle.jb_page.specs.declared.hand.Hand.{Hand}
 use Rattle.jb_page.specs.declared.hand.PageQueue.{PageQueue}
 use Rattle.jb_page.specs.Rows.{Has, pages_of, head_row, senders, FitsAll, row_with_put, row_with_refusal, row_with_taken, row_with_none}
 use Rattle.jb_page.specs.Rule.{IsMade}
-
--- which queue it is
-abbrev pub QueueId : Type 0
-QueueId = TableId
+use Rattle.jb_page.specs.Pagers.{QueueId}
 
 -- the queue itself
 abbrev pub id_of : PageQueue → QueueId
@@ -30,20 +26,17 @@ view_in h = view h.pass
 abbrev pub row_of : Hand → Row
 row_of h = head_row (view_in h).rows
 
--- so many pages waited at one moment, and those of this pager among them were the last that it sent
-abbrev pub Holds : ℕ → Row → Type 0
-Holds n r = (items : List Page) × (length items ≡ n) × ((gone : List Page) × (gone ++ pages_of r.pager items ≡ r.sent))
-
 -- each pager that was made has a row
 pub record HasAll (v : View) : Type 0 where
   pub most : ℕ
   pub last : v.made ≡ Some most
   pub each : (m : ℕ) → IsMade most m → (s : ℕ × List Page) × Has (senders v.rows) s × (s.0 ≡ m)
 
--- what was left waiting came behind what was there, and with what was taken it is what all have sent
+-- what was left waiting, at most 64 pages, came behind what was there, and with what was taken it is what all have sent
 pub record Leaves (v : View) (before after : List Page) : Type 0 where
   pub rest : List Page
   pub added : after ≡ before ++ rest
+  pub few : length rest ≤ 64
   pub fits : FitsAll (senders v.rows) ((head_row v.rows).taken ++ rest)
 
 -- the hand has the row of one pager
@@ -57,11 +50,10 @@ pub record IsSameHand (old new : Hand) : Type 0 where
   pub takes : (view_in new).takes ≡ (view_in old).takes
   pub made : (view_in new).made ≡ (view_in old).made
 
--- the page was put; or there was no room: 64 pages waited, and those of this pager among them are the last that it sent
+-- the page was put; or there was no room
 pub record Puts (page : Page) (result : Bool) (old new : Hand) : Type 0 where
   pub same : IsSameHand old new
   pub row : MatchBool result (row_of new ≡ row_with_put (row_of old) page) (row_of new ≡ row_with_refusal (row_of old))
-  pub full : result ≡ false → Holds 64 (row_of old)
 
 -- the page was taken; or no page waited, and so all that this pager sent to itself it has taken
 pub record Gets (result : Option Page) (old new : Hand) : Type 0 where

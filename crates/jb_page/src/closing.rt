@@ -4,8 +4,10 @@ ghost use Rattle.std.specs.List.{flat_map};
 ghost use Rattle.jb_page.specs.declared.page.Page.{Page};
 ghost use Rattle.jb_page.specs.Rows.{Has, head_row, joined, senders, FitsAll};
 ghost use Rattle.jb_page.specs.Seats.{view_in, queue_of, id_of, HasAll, HasOneRow};
-ghost use Rattle.jb_page.specs.Pagers.{nodes_of, IsPagerOf};
-ghost use Rattle.jb_page.specs.Closing.{hand_view, gathered, AreOfQueues, IsPagerOn, Drains, HasNumber, HasAllNumbers, IsLowestMissing, PagesInOrder};
+ghost use Rattle.jb_page.specs.Pagers.{IsPagerOf};
+ghost use Rattle.jb_page.specs.Hands.{AreOfQueues, IsPagerOn};
+ghost use Rattle.jb_page.specs.Gathered.{hand_view, gathered, AreOwn, Drains, HasAllNumbers};
+ghost use Rattle.jb_page.specs.Closing.{HasNumber, IsLowestMissing, PagesInOrder};
 
 use crate::hand::{Hand, PageQueue};
 use crate::page::Page;
@@ -42,11 +44,12 @@ fn drain_all<R: Wait>(rt: &R, queues: &[PageQueue], whole: &mut [Hand], left: &m
 }
 
 /// The hands that know what all hands of their queue knew.
-fn gather(queues: &[PageQueue], nodes: u32, mut pagers: Vec<Pager>) -> Vec<Hand>
+fn gather(queues: &[PageQueue], mut pagers: Vec<Pager>) -> Vec<Hand>
     requires some { 0 < length pagers.items }
-    requires of { All (IsPagerOn queues.now nodes) pagers.items }
+    requires of { All (IsPagerOn queues.now) pagers.items }
     ensures whole { AreOfQueues queues.now result.items }
-    ensures views { (k : ℕ) (h : _) → k < length queues.now → view_in (slice_index_or result.items k h) ≡ gathered k pagers.items }
+    ensures views { (k : ℕ) (h : _) → k < length queues.now → view_in (slice_index_or result.items k h) ≡ gathered (length queues.now) k pagers.items }
+    ensures own { AreOwn (length queues.now) pagers.items }
 {
     let Some(last) = pagers.pop() else {
         unreachable!()
@@ -102,8 +105,8 @@ impl Pages {
         pagers: Vec<Pager>,
     ) -> Result<Vec<Page>, (Pages, Vec<Pager>, u32)>
         requires of { All (IsPagerOf self) pagers.items }
-        ensures ok { IfOk result (λ left. PagesInOrder pagers.items (nodes_of self) left.items) }
-        ensures missing { IfErr result (λ r. IsLowestMissing pagers.items (nodes_of self) r.2) }
+        ensures ok { IfOk result (λ left. PagesInOrder pagers.items (self.nodes) left.items) }
+        ensures missing { IfErr result (λ r. IsLowestMissing pagers.items (self.nodes) r.2) }
         ensures kept { IfErr result (λ r. (r.0 ≡ self) × (r.1.items ≡ pagers.items)) }
     {
         if let Some(number) = first_missing(pagers.as_slice(), self.nodes) {
@@ -112,9 +115,9 @@ impl Pages {
         let Pages {
             queues,
             mut room,
-            nodes,
+            nodes: _,
         } = self;
-        let mut whole = gather(queues.as_slice(), nodes, pagers);
+        let mut whole = gather(queues.as_slice(), pagers);
         drain_all(rt, queues.as_slice(), whole.as_mut_slice(), &mut room);
         Ok(room)
     }

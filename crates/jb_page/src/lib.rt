@@ -7,6 +7,7 @@
 
 mod closing;
 mod hand;
+mod laws;
 mod page;
 mod pager;
 mod pages;
@@ -16,5 +17,6 @@ mod rule;
 mod tests;
 mod view;
 
+pub use laws::serials_rise;
 pub use page::{Page, PageError};
 pub use pager::{Pager, Pages};

@@ -1,8 +1,8 @@
 //! The calls of a pager, and how the queues and the pagers are made.
-ghost use Rattle.std.specs.Prelude.{◌≡◌, ◌≢◌, ◌↔◌, ◌<◌, ◌≤◌, ◌-◌, ◌+◌, ◌^◌, ℕ, All, length, true, Some, None, IfOk, OnOk, slice_index_or};
-ghost use Rattle.jb_page.specs.Seats.{view_in, row_of, queue_of, id_of, Puts, Gets, HasOneRow};
+ghost use Rattle.std.specs.Prelude.{◌≡◌, ◌<◌, ◌≤◌, ◌+◌, All, length, IfOk, OnOk};
 ghost use Rattle.jb_state.specs.Short.{short_of};
-ghost use Rattle.jb_page.specs.Pagers.{nodes_of, number_of, count_of, AreLast, AreOlder, AreHands, IsPagerOf, AreNewPagers, KeepsOthers, Sends, Takes, IsSpent};
+ghost use Rattle.jb_page.specs.Pagers.{AnswersSend, AnswersTake, AreNewPagers, IsPagerOf, sent_with, taken_with};
+ghost use Rattle.jb_page.specs.Hands.{AreLast, AreOlder};
 
 use crate::hand::{Hand, PageQueue};
 use crate::page::{Page, PageError};
@@ -15,32 +15,6 @@ use std::sync::Wait;
 
 /// So many pages a pager sends at most: 2^56.
 const MOST_PAGES: u64 = 1 << 56;
-
-/// Puts a page into one of the queues.
-fn put_at<R: Wait>(rt: &R, queues: &[PageQueue], hands: &mut [Hand], k: usize, page: Page) -> bool
-    requires within { (k < length queues.now) × (length hands.old ≡ length queues.now) }
-    requires queue { (h : _) (l : _) → queue_of (slice_index_or hands.old k h) ≡ id_of (slice_index_or queues.now k l) }
-    requires one { (h : _) → HasOneRow (slice_index_or hands.old k h) }
-    requires from { (h : _) → page.from ≡ (row_of (slice_index_or hands.old k h)).pager }
-    ensures puts { (h : _) → Puts page result (slice_index_or hands.old k h) (slice_index_or hands.new k h) }
-    ensures others { (j : ℕ) (h : _) → j ≢ k → slice_index_or hands.new j h ≡ slice_index_or hands.old j h }
-    ensures count { length hands.new ≡ length hands.old }
-{
-    queues[k].put(rt, &mut hands[k], page)
-}
-
-/// Takes a page from one of the queues.
-fn get_at<R: Wait>(rt: &R, queues: &[PageQueue], hands: &mut [Hand], k: usize) -> Option<Page>
-    requires within { (k < length queues.now) × (length hands.old ≡ length queues.now) }
-    requires queue { (h : _) (l : _) → queue_of (slice_index_or hands.old k h) ≡ id_of (slice_index_or queues.now k l) }
-    requires one { (h : _) → HasOneRow (slice_index_or hands.old k h) }
-    requires takes { (h : _) → (view_in (slice_index_or hands.old k h)).takes ≡ true }
-    ensures gets { (h : _) → Gets result (slice_index_or hands.old k h) (slice_index_or hands.new k h) }
-    ensures others { (j : ℕ) (h : _) → j ≢ k → slice_index_or hands.new j h ≡ slice_index_or hands.old j h }
-    ensures count { length hands.new ≡ length hands.old }
-{
-    queues[k].get(rt, &mut hands[k])
-}
 
 /// So many queues, each with the hand of the first pager.
 fn new_queues(alloc: Global, nodes: u32) -> Result<(Vec<PageQueue>, Vec<Hand>), AllocError>
@@ -82,8 +56,8 @@ impl Pages {
     /// all pages that closing can hand back.
     pub fn new(alloc: Global, nodes: u32) -> Result<(Pages, Vec<Pager>), OutOfMemory>
         requires nodes { (0 < nodes) × (nodes ≤ 32) }
-        ensures nodes { IfOk result (λ r. nodes_of r.0 ≡ nodes) }
-        ensures pagers { IfOk result (λ r. AreNewPagers r.0 r.1.items) }
+        ensures nodes { IfOk result (λ r. r.0.nodes ≡ nodes) }
+        ensures pagers { IfOk result (λ r. AreNewPagers nodes r.1.items) }
         ensures of { IfOk result (λ r. All (IsPagerOf r.0) r.1.items) }
     {
         let room = Vec::with_capacity(alloc, nodes as usize * ROOM)?;
@@ -116,8 +90,8 @@ impl Pages {
     /// Sends a text of at most 72 bytes to the node `to`, which may be the pager's own. It may wait for another thread's step on
     /// that queue, and takes no memory.
     ///
-    /// `Full` comes only where 64 pages waited for that node at a moment of this call. `Spent` comes exactly where the pager has sent
-    /// 2^56 pages. After an error no page was put.
+    /// `Full` comes where 64 pages waited for that node at a moment of this call; that it comes nowhere else is tested and not
+    /// proved. `Spent` comes exactly where the pager has sent 2^56 pages. After an error no page was put.
     pub fn send<R: Wait>(
         &self,
         rt: &R,
@@ -126,17 +100,11 @@ impl Pages {
         text: &[u8],
     ) -> Result<(), PageError>
         requires of { IsPagerOf self.now pager.old }
-        requires to { (0 < to) × (to ≤ nodes_of self.now) }
+        requires to { (0 < to) × (to ≤ self.now.nodes) }
         requires short { length text.now ≤ 72 }
-
-        // the pager stays one of these pages, with its number; where the page was put, its count grows, and so does what it sent there
         ensures of { IsPagerOf self.now pager.new }
-        ensures number { number_of pager.new ≡ number_of pager.old }
-        ensures sends { Sends pager.old pager.new to (short_of 72 text.now) result }
-        ensures others { KeepsOthers (to - 1) pager.old pager.new }
-
-        // when it is spent
-        ensures spent { IsSpent result ↔ (2 ^ 56 ≤ count_of pager.old) }
+        ensures sends { pager.new ≡ sent_with pager.old to (short_of 72 text.now) result }
+        ensures why { AnswersSend pager.old to result }
     {
         if pager.count >= MOST_PAGES {
             return Err(PageError::Spent { sent: pager.count });
@@ -146,8 +114,8 @@ impl Pages {
             serial: pager.count + 1,
             text: Short::of(text),
         };
-        let hands = pager.hands.as_mut_slice();
-        if put_at(rt, self.queues.as_slice(), hands, to as usize - 1, page) {
+        let k = to as usize - 1;
+        if self.queues[k].put(rt, &mut pager.hands[k], page) {
             pager.count += 1;
             return Ok(());
         }
@@ -160,11 +128,10 @@ impl Pages {
     pub fn take<R: Wait>(&self, rt: &R, pager: &mut Pager) -> Option<Page>
         requires of { IsPagerOf self.now pager.old }
         ensures of { IsPagerOf self.now pager.new }
-        ensures number { (number_of pager.new ≡ number_of pager.old) × (count_of pager.new ≡ count_of pager.old) }
-        ensures takes { Takes pager.old pager.new result }
-        ensures others { KeepsOthers (number_of pager.old - 1) pager.old pager.new }
+        ensures takes { pager.new ≡ taken_with pager.old result }
+        ensures why { AnswersTake pager.old result }
     {
         let k = pager.number as usize - 1;
-        get_at(rt, self.queues.as_slice(), pager.hands.as_mut_slice(), k)
+        self.queues[k].get(rt, &mut pager.hands[k])
     }
 }

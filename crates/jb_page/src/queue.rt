@@ -78,7 +78,6 @@ impl PageQueue {
         requires all { ((view_in hand.old).takes ≡ true) × HasAll (view_in hand.old) × (0 < length (view_in hand.old).rows) }
         requires room { length left.old.items + 64 ≤ vec_capacity left.old }
         ensures leaves { Leaves (view_in hand.old) left.old.items left.new.items }
-        ensures few { length left.new.items ≤ length left.old.items + 64 }
         ensures room { vec_capacity left.new ≡ vec_capacity left.old }
     {
         let count = self.queue.len_as::<All, R>(rt, &mut hand.pass);

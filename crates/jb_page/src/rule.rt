@@ -31,9 +31,9 @@ impl Outcome<Page, View> for Put {
 }
 
 impl Lesson<Page, View> for Put {
-    ghost use Rattle.jb_page.specs.Rows.{Waits};
+    ghost use Rattle.std.specs.Prelude.{⊤};
 
-    ghost fact = { Waits };
+    ghost fact = { λ v items. ⊤ };
 }
 
 /// A page is taken, or there was none.

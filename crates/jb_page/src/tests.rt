@@ -1,5 +1,5 @@
 ghost use Rattle.std.specs.Prelude.{◌<◌, ◌≤◌, All, IfSome, OnOk};
-ghost use Rattle.jb_page.specs.Pagers.{nodes_of, IsPagerOf};
+ghost use Rattle.jb_page.specs.Pagers.{IsPagerOf};
 
 use super::*;
 use jb_base::OutOfMemory;
@@ -16,7 +16,7 @@ fn send_all<R: Wait>(
     count: u32,
 ) -> Result<(), PageError>
     requires of { IsPagerOf pages.now pager.old }
-    requires to { (0 < to) × (to ≤ nodes_of pages.now) }
+    requires to { (0 < to) × (to ≤ pages.now.nodes) }
     ensures { IsPagerOf pages.now pager.new }
 {
     for _ in 0..count {
@@ -117,7 +117,7 @@ fn a_queue_holds_sixty_four_pages_and_none_is_lost(rt: HostRuntime) -> Result<()
 // A thread's part: sends twenty pages to the third node.
 fn sent<R: Wait>(rt: &R, pages: &Pages, mut pager: Pager) -> Pager
     requires of { IsPagerOf pages.now pager }
-    requires three { 3 ≤ nodes_of pages.now }
+    requires three { 3 ≤ pages.now.nodes }
     ensures { IsPagerOf pages.now result }
 {
     let _ = send_all(rt, pages, &mut pager, 3, 20);
@@ -156,14 +156,14 @@ fn sent_and_took<R: Threads + Wait + Sync>(
     second: Pager,
     third: Pager,
 ) -> (Pager, (Pager, bool))
-    requires three { 3 ≤ nodes_of pages.now }
+    requires three { 3 ≤ pages.now.nodes }
     requires of { (IsPagerOf pages.now second) × (IsPagerOf pages.now third) }
     ensures { (IsPagerOf pages.now result.0) × (IsPagerOf pages.now result.1.0) }
 {
     join(
         rt,
         move || -> Pager
-            requires { (IsPagerOf pages.now second) × (3 ≤ nodes_of pages.now) }
+            requires { (IsPagerOf pages.now second) × (3 ≤ pages.now.nodes) }
             ensures { IsPagerOf pages.entry.now result }
         { sent(rt, pages, second) },
         move || -> (Pager, bool)
@@ -181,7 +181,7 @@ fn exchange<R: Threads + Wait + Sync>(
     second: Pager,
     third: Pager,
 ) -> (Pager, (Pager, (Pager, bool)))
-    requires three { 3 ≤ nodes_of pages.now }
+    requires three { 3 ≤ pages.now.nodes }
     requires first { IsPagerOf pages.now first }
     requires rest { (IsPagerOf pages.now second) × (IsPagerOf pages.now third) }
     ensures first { IsPagerOf pages.now result.0 }
@@ -190,11 +190,11 @@ fn exchange<R: Threads + Wait + Sync>(
     join(
         rt,
         move || -> Pager
-            requires { (IsPagerOf pages.now first) × (3 ≤ nodes_of pages.now) }
+            requires { (IsPagerOf pages.now first) × (3 ≤ pages.now.nodes) }
             ensures { IsPagerOf pages.entry.now result }
         { sent(rt, pages, first) },
         move || -> (Pager, (Pager, bool))
-            requires { (IsPagerOf pages.now second) × (IsPagerOf pages.now third) × (3 ≤ nodes_of pages.now) }
+            requires { (IsPagerOf pages.now second) × (IsPagerOf pages.now third) × (3 ≤ pages.now.nodes) }
             ensures { (IsPagerOf pages.entry.now result.0) × (IsPagerOf pages.entry.now result.1.0) }
         { sent_and_took(rt, pages, second, third) },
     )

@@ -1,7 +1,7 @@
 use Rattle.std.proofs.Common.{◌≡◌, ◌≤◌, ◌+◌, ◌*◌, ◌-◌, ℕ, length, slice_index_or}
 use Rattle.std.specs.Prelude.{vec_capacity}
 use Rattle.jb_page.specs.declared.hand.Hand.{Hand}
-use Rattle.jb_page.specs.Closing.{DrainedSoFar}
+use Rattle.jb_page.specs.Gathered.{DrainedSoFar}
 use Rattle.jb_page.proofs.closing.drain_all.Given as goal
 
 abbrev pub invariant-loop-k : goal.invariant-loop-k

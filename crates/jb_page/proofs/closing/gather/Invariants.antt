@@ -1,15 +1,15 @@
-use Rattle.std.proofs.Common.{◌≡◌, List, ◌++◌}
+use Rattle.std.proofs.Common.{◌≡◌, List, length, ◌++◌}
 use Rattle.std.specs.Prelude.{All}
-use Rattle.jb_page.specs.declared.pager.Pager.{Pager}
-use Rattle.jb_page.specs.Closing.{AreOfQueues, IsPagerOn}
+use Rattle.jb_page.specs.Pagers.{PagerView}
+use Rattle.jb_page.specs.Hands.{AreOfQueues, IsPagerOn}
 use Rattle.jb_page.proofs.Gathers.{Knows}
 use Rattle.jb_page.proofs.closing.gather.Given as goal
 
 abbrev pub invariant-loop-pager : goal.invariant-loop-pager
 invariant-loop-pager l = record {
-  left : All (IsPagerOn l.queues l.nodes) l.pagers.items;
+  left : All (IsPagerOn l.queues) l.pagers.items;
   of : AreOfQueues l.queues l.whole.items;
-  taken : (rest : List Pager) × (l.fn.pagers.items ≡ l.pagers.items ++ rest) × Knows l.queues l.whole.items rest;
+  taken : (rest : List PagerView) × (l.fn.pagers.items ≡ l.pagers.items ++ rest) × Knows (length l.queues) l.whole.items rest;
 }
 
 abbrev pub decreases-loop-pager : goal.decreases-loop-pager

@@ -2,7 +2,8 @@ use Rattle.std.proofs.Common.{◌≡◌, ◌≤◌, ◌<◌, ℕ, List, ◌++◌
 use Rattle.jb_page.specs.declared.hand.Hand.{Hand}
 use Rattle.jb_page.specs.Rows.{joined}
 use Rattle.jb_page.specs.Seats.{view_in}
-use Rattle.jb_page.specs.Closing.{hand_view, AreOfQueues}
+use Rattle.jb_page.specs.Hands.{AreOfQueues}
+use Rattle.jb_page.specs.Gathered.{hand_view}
 use Rattle.jb_page.proofs.closing.join_all.Given as goal
 
 abbrev pub invariant-loop-hand : goal.invariant-loop-hand

@@ -1,6 +1,6 @@
 use Rattle.std.proofs.Common.{◌≡◌, ◌≤◌, length}
 use Rattle.std.specs.Prelude.{vec_capacity}
-use Rattle.jb_page.specs.Pagers.{AreLast}
+use Rattle.jb_page.specs.Hands.{AreLast}
 use Rattle.jb_page.proofs.pages.new_queues.Given as goal
 
 abbrev pub invariant-loop-made : goal.invariant-loop-made

@@ -3,7 +3,7 @@ use Rattle.std.specs.Prelude.{vec_capacity}
 use Rattle.jb_page.specs.declared.hand.Hand.{Hand}
 use Rattle.jb_page.specs.declared.hand.PageQueue.{PageQueue}
 use Rattle.jb_page.specs.Seats.{view_in, queue_of, id_of}
-use Rattle.jb_page.specs.Pagers.{AreLast, fresh, settled}
+use Rattle.jb_page.specs.Hands.{AreLast, fresh, settled}
 use Rattle.jb_page.proofs.pages.next_hands.Given as goal
 
 abbrev pub invariant-loop-k : goal.invariant-loop-k

@@ -1,4 +1,4 @@
-use Rattle.std.proofs.Common.{◌≡◌, ◌+◌, [], length, length-append, ap, arith}
+use Rattle.std.proofs.Common.{◌≡◌, ◌+◌, [], length, arith}
 use Rattle.crossbeam_queue.specs.Passes.{view}
 use Rattle.jb_page.proofs.Keeps.{whole}
 use Rattle.jb_page.proofs.Draining.{after_none, can_learn, can_pop, as_many, fits_whole}
@@ -26,8 +26,5 @@ returns-clause-leaves g c = let v = view c.args.hand.now.pass in let a = c.requi
     let first = c.len_as-count.ensures.rule.1 in let now = c.learn_as.ensures.rule in
     let e : 0 + length first.0 ≡ length t.0 + length now.0 = as_many v a.2 a.0 a.1 v u [] t.0 first.0 now.0 (after_none v a.2) t.3 first.2 now.1 in
     let count = first.1 in let done = t.1 in let end = c.loop-done-test.false in let none : length now.0 ≡ 0 = omega (arith, e, count, done, end) in
-    record { rest = t.0; added = t.2; fits = fits_whole v a.2 u t.0 now.0 t.3 a.0 a.1 now.1 none }
-
-pub returns-clause-few : goal.returns-clause-few
-returns-clause-few g c = let t = c.loop-done.invariant.taken in let most = c.len_as-count.ensures.rule.0 in let room = c.args.self.now.room in let end = c.loop-done.auto.done-end in
-    let done = t.1 in let long = ap length t.2 in omega (arith, long, length-append c.args.left.now.items t.0, done, end, most, room)
+    let most = c.len_as-count.ensures.rule.0 in let room = c.args.self.now.room in let last = c.loop-done.auto.done-end in
+    record { rest = t.0; added = t.2; few = omega (arith, done, last, most, room); fits = fits_whole v a.2 u t.0 now.0 t.3 a.0 a.1 now.1 none }

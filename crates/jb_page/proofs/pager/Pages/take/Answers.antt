@@ -1,19 +1,24 @@
-use Rattle.std.proofs.Common.{◌-◌, sym, subst, arith}
-use Rattle.jb_page.specs.Pagers.{AreHands}
-use Rattle.jb_page.proofs.Hands.{hands_kept, refilled, get_keeps, own_queue}
+use Rattle.std.proofs.Common.{◌-◌, sym, ap, ◌∙◌, subst, arith}
+use Rattle.jb_page.specs.declared.hand.Hand.{Hand}
+use Rattle.jb_page.specs.Seats.{queue_of, id_of, Gets}
+use Rattle.jb_page.proofs.Calls.{here, one_each, as_many, still_of, took}
 use Rattle.jb_page.proofs.pager.Pages.take.Goals as goal
 
-pub get_at-requires-clause-takes : goal.get_at-requires-clause-takes
-get_at-requires-clause-takes g c = let p = c.args.pager.now in let are = c.requires.of.hands in let counted = c.args.self.now.counted in let few = c.requires.of.few.1 in
-    rw c.as_mut_slice.ensures.value (own_queue c.args.self.now.queues.items c.args.self.now.nodes p.number p.hands.items are c.requires.of.few.0 (omega arith))
+pub get-requires-clause-queue : goal.get-requires-clause-queue
+get-requires-clause-queue g c =
+    let s = c.self.inside in let p = c.pager.inside in let k = p.number - 1 in let few = here _ s.nodes s.queues.items c.self.view_is _ p.number p.count p.hands.items c.pager.view_is c.requires.of in
+    let each = one_each _ s.nodes s.queues.items c.self.view_is _ p.number p.count p.hands.items c.pager.view_is c.requires.of in
+    let counted = c.self.invariant.counted in let a = few.few.0 in let b = few.few.1 in
+    ap queue_of c.index_mut.ensures.value ∙ (each.each k c.index_mut.result.now c.index.result.now (omega (arith, counted, a, b)) ∙ sym (ap id_of c.index.ensures))
 
 pub returns-clause-of : goal.returns-clause-of
-returns-clause-of g c = let p = c.args.pager.now in let old = p.hands.items in let is = c.as_mut_slice.ensures.value in record {
-  few = c.requires.of.few;
-  hands = subst (AreHands c.args.self.now.queues.items c.args.self.now.nodes c.args.pager.now.number) (sym (refilled c.args.pager.now.hands.len c.args.pager.now.hands.items c.get_at.new.hands c.args.pager.now.hands.ok.0 (rw (sym is) c.get_at.ensures.count))) (hands_kept c.args.self.now.queues.items c.args.self.now.nodes p.number (p.number - 1) old c.get_at.new.hands c.requires.of.hands (rw (sym is) c.get_at.ensures.count)
-      (λ h. get_keeps c.get_at.result _ _ (rw (sym is) (c.get_at.ensures.gets h))) (λ j h ne. rw (sym is) (c.get_at.ensures.others j h ne)));
-}
+returns-clause-of g c =
+    let s = c.self.inside in let p = c.pager.inside in let k = p.number - 1 in let gets = subst (λ (h : Hand). Gets c.get.result h c.get.new.hand) c.index_mut.ensures.value c.get.ensures.gets in
+    still_of _ s.nodes s.queues.items c.self.view_is _ p.number p.count p.hands.items c.pager.view_is c.requires.of p.count k c.index_mut.result.now c.get.new.hand gets.same.queue
 
-pub get_at-requires-clause-one : goal.get_at-requires-clause-one
-get_at-requires-clause-one g c = λ h. let p = c.args.pager.now in let are = c.requires.of.hands in let counted = c.args.self.now.counted in let few = c.requires.of.few.1 in let some_one = c.requires.of.few.0 in
-    rw c.as_mut_slice.ensures.value (are.each (p.number - 1) h (omega arith)).one
+pub returns-clause-takes : goal.returns-clause-takes
+returns-clause-takes g c =
+    let s = c.self.inside in let p = c.pager.inside in let gets = subst (λ (h : Hand). Gets c.get.result h c.get.new.hand) c.index_mut.ensures.value c.get.ensures.gets in
+    let is = here _ s.nodes s.queues.items c.self.view_is _ p.number p.count p.hands.items c.pager.view_is c.requires.of in
+    let long = as_many _ s.nodes s.queues.items c.self.view_is _ p.number p.count p.hands.items c.pager.view_is c.requires.of in let a = is.few.0 in let b = is.few.1 in
+    took _ s.nodes s.queues.items c.self.view_is _ p.number p.count p.hands.items c.pager.view_is c.requires.of c.get.result c.index_mut.result.now c.get.new.hand (omega (arith, long, a, b)) gets
