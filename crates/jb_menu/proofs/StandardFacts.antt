@@ -1,6 +1,6 @@
 -- Sessions step by step, worked by hand from the table of the menus and the texts of a session: beside what is given stands what
 -- is done then. A caret in a text is the end of a line.
-use Rattle.std.proofs.Common.{◌≡◌, ℕ, zero, suc, ◌<◌, ◌+◌, ◌==◌, true, false, IsTrue, List, [], ◌∷◌, ◌++◌, Some, None, AllPairs, length, slice_index_or, map, flat_map, replicate, codes, pos, refl, ap, arith, if◌then◌else◌}
+use Rattle.std.proofs.Common.{◌≡◌, ℕ, zero, suc, ◌<◌, ◌+◌, ◌==◌, true, false, IsTrue, List, [], ◌∷◌, ◌++◌, Some, None, Ok, Err, AllPairs, length, slice_index_or, map, flat_map, replicate, codes, pos, refl, ap, arith, if◌then◌else◌}
 use Rattle.std.specs.Char.{to_ascii_lowercase}
 use Rattle.std.specs.List.{list_all}
 use Rattle.std.proofs.lemmas.List.Elements.{All-cons, All-nil}
@@ -22,13 +22,14 @@ use Rattle.jb_state.specs.declared.look.Question.TheVariants.{Figures}
 use Rattle.jb_state.specs.declared.look.SharedFault.TheVariants.{StoreFault, Gap, RunSpent, Barred}
 use Rattle.jb_model.specs.declared.reply.Reply.TheVariants as reply
 use Rattle.jb_state.specs.declared.summary.Summary.{Summary}
+use Rattle.jb_page.specs.declared.page.PageError.TheVariants.{Full, Spent}
 use Rattle.jb_text.specs.Date.{clock_of, date_text, month_and_day, year_and_day}
 use Rattle.jb_text.specs.Letter.{heading_text}
 use Rattle.jb_menu.specs.CommandLines.{command_of}
 use Rattle.jb_menu.specs.LogIn.{login_row}
 use Rattle.jb_menu.specs.Menu.{menu_turn, stage_turn, user_in}
 use Rattle.jb_menu.specs.declared.given.Given.{Given}
-use Rattle.jb_menu.specs.declared.given.Given.TheVariants.{Line, Reply, Answer, Count, Fault}
+use Rattle.jb_menu.specs.declared.given.Given.TheVariants.{Line, Reply, Answer, Count, Fault, Page, Sent}
 use Rattle.jb_menu.specs.declared.moves.MenuEnd.{MenuEnd}
 use Rattle.jb_menu.specs.declared.moves.MenuEnd.TheVariants.{Quit, LoginRefused}
 use Rattle.jb_menu.specs.declared.moves.Move.{Move}
@@ -214,8 +215,8 @@ log_ins = (refl, refl)
 abbrev top_commands : List (Given × Move)
 top_commands =
     ((Line [], says (codes "Top> ")) ∷ (Line (codes "   "), says (codes "Top> ")) ∷ (counted 1 1, says []) ∷ (Reply (reply.Posted 2), says []) ∷ [])
-    ++ each (codes "BCDEFGHIJKLMNOPRSTUVWXYZbcdefghijklmnoprstuvwxyz") [] (says (codes "Unknown command.^Top> "))
-    ++ each (codes "ABCDEFGHIJKLMNOPQRSTUVWXYZabcdefghijklmnopqrstuvwxyz") (codes " 7") (says (codes "Unknown command.^Top> "))
+    ++ each (codes "BCDEFHIJKLMNOPRSTUVWXYZbcdefhijklmnoprstuvwxyz") [] (says (codes "Unknown command.^Top> "))
+    ++ each (codes "ABCDEFGHIJKLMNOPQRTUVWXYZabcdefghijklmnopqrtuvwxyz") (codes " 7") (says (codes "Unknown command.^Top> "))
     ++ each (codes "!?.-+") [] (says (codes "Unknown command.^Top> "))
     ++ ((Line (codes "AA"), says (codes "Unknown command.^Top> ")) ∷ (Line (codes "A1"), says (codes "Unknown command.^Top> "))
     ∷ (Line (codes "1A"), says (codes "Unknown command.^Top> ")) ∷ (Line (codes "1 1"), says (codes "Unknown command.^Top> "))
@@ -242,8 +243,8 @@ abbrev area_commands : List (Given × Move)
 area_commands =
     ((Line (codes "1"), Look 0 Figures) ∷ (counted 3 2, says (codes "3 visible, 2 unread.^[general] ")) ∷ (Line [], says (codes "[general] "))
     ∷ (Line (codes "  "), says (codes "[general] ")) ∷ (Count 1, says []) ∷ (Reply (reply.Killed 3), says []) ∷ [])
-    ++ each (codes "ACDEFGHIJKMOSTUVWacdefghijkmostuvw!?.-+") [] (says (codes "Unknown command.^[general] "))
-    ++ each (codes "ABCDFGHIJNOPQRSUVWXZabcdfghijnopqrsuvwxz!?.") (codes " 7") (says (codes "Unknown command.^[general] "))
+    ++ each (codes "ACDEFHIJKMOSTUVWacdefhijkmostuvw!?.-+") [] (says (codes "Unknown command.^[general] "))
+    ++ each (codes "ABCDFGHIJNOPQRUVWXZabcdfghijnopqruvwxz!?.") (codes " 7") (says (codes "Unknown command.^[general] "))
     ++ ((Line (codes "LL"), says (codes "Unknown command.^[general] ")) ∷ (Line (codes "L7"), says (codes "Unknown command.^[general] "))
     ∷ (Line (codes "7L"), says (codes "Unknown command.^[general] ")) ∷ (Line (codes "L 7 8"), says (codes "Unknown command.^[general] "))
     ∷ (Line (codes "L -7"), says (codes "Unknown command.^[general] ")) ∷ (Line (codes "L +7"), says (codes "Unknown command.^[general] "))
@@ -383,6 +384,43 @@ editing =
 editing_steps : Follows (Top 0) editing
 unfolding menu_turn stage_turn command_of digits heading_text date_text clock_of year_and_day month_and_day
 editing_steps = refl
+
+-- a page with this text from the node, and a node that is full or whose pages are spent
+abbrev a_page : List ℕ → Given
+a_page text = Page (Some (record { from = 1; serial = 1; text = short_of 72 text }))
+
+abbrev sends : List ℕ → Move
+sends text = move.Send 1 (short_of 72 text)
+
+-- pages outside of the areas and in one: sent, refused, taken, and to nodes that are not there; what was shown last stays
+abbrev paging : List (Given × Move)
+paging =
+    (Line (codes "S 1"), says (codes "Page: ")) ∷ (Line (codes "hi"), sends (codes "hi")) ∷ (Sent (Ok tt), says (codes "Sent.^Top> "))
+    ∷ (Line (codes "G"), move.Take) ∷ (a_page (codes "hi"), move.Take) ∷ (Page None, says (codes "Page from node 1: hi^Top> "))
+    ∷ (Line (codes "G"), move.Take) ∷ (Page None, says (codes "No pages.^Top> ")) ∷ (Line (codes "S 3"), says (codes "No such node.^Top> "))
+    ∷ (Line (codes "s  0"), says (codes "No such node.^Top> ")) ∷ (Line (codes "S 2"), says (codes "No such node.^Top> "))
+    ∷ (Line (codes "s 1"), says (codes "Page: ")) ∷ (Sent (Ok tt), says []) ∷ (Page None, says []) ∷ (Line [], sends []) ∷ (Line (codes "q"), says [])
+    ∷ (Fault StoreFault, says []) ∷ (Sent (Err (Full 1)), says (codes "Node 1 is full.^Top> ")) ∷ (Line (codes "1"), Look 0 Figures)
+    ∷ (counted 3 2, says (codes "3 visible, 2 unread.^[general] ")) ∷ (Line (codes "1"), Ask 0 (command.Read 1))
+    ∷ (read 1 0x00800001 (codes "abc"), says (codes "Message 1^From: Test^To: Hello^Subject: abc^Date: 2001-09-09 01:46:40^^Good^^[general] "))
+    ∷ (Line (codes "S 1"), says (codes "Page: ")) ∷ (Line (replicate 72 97 ++ codes "bcdefg"), sends (replicate 72 97))
+    ∷ (Sent (Err (Spent 72057594037927936)), says (codes "Pages spent.^[general] ")) ∷ (Line (codes "S 2"), says (codes "No such node.^[general] "))
+    ∷ (Line (codes " g "), move.Take) ∷ (Line (codes "g"), says []) ∷ (Fault StoreFault, says []) ∷ (a_page (7 ∷ 255 ∷ []), move.Take)
+    ∷ (a_page [], move.Take) ∷ (Page None, says (codes "Page from node 1: ?" ++ 255 ∷ codes "^Page from node 1: ^[general] "))
+    ∷ (Line (codes "R"), says (codes "Reply to Test, subject Re: abc^Text, . ends, ! cancels^")) ∷ []
+
+paging_steps : Follows (Top 0) paging
+unfolding menu_turn stage_turn command_of digits heading_text date_text clock_of year_and_day month_and_day
+paging_steps = refl
+
+-- the sixty-fourth page is the last, and none is asked for behind it
+abbrev many : List (Given × Move)
+many = (Line (codes "G"), move.Take) ∷ replicate 63 (a_page (codes "hi"), move.Take)
+    ++ (a_page (codes "hi"), says (flat_map (λ (line : List ℕ). line) (replicate 64 (codes "Page from node 1: hi^")) ++ codes "Top> ")) ∷ []
+
+many_steps : Follows (Top 0) many
+unfolding menu_turn stage_turn command_of digits heading_text date_text clock_of year_and_day month_and_day
+many_steps = refl
 
 -- a text of 207 lines of 79 bytes with their ends; 31 bytes more with their end make it 16,384
 abbrev long_text : List ℕ

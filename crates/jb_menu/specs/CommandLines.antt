@@ -3,7 +3,7 @@ use Rattle.std.specs.Prelude.{ℕ, ◌-◌, ◌^◌, ◌==◌, Bool, List, [], �
 use Rattle.std.specs.Char.{to_ascii_uppercase}
 use Rattle.jb_text.specs.Digits.{number_up_to}
 use Rattle.jb_menu.specs.declared.command_line.CommandLetter.{CommandLetter}
-use Rattle.jb_menu.specs.declared.command_line.CommandLetter.TheVariants.{A, B, E, K, L, M, N, P, Q, R, T, X, Y, Z}
+use Rattle.jb_menu.specs.declared.command_line.CommandLetter.TheVariants.{A, B, E, G, K, L, M, N, P, Q, R, S, T, X, Y, Z}
 use Rattle.jb_menu.specs.declared.command_line.CommandLine.{CommandLine}
 use Rattle.jb_menu.specs.declared.command_line.CommandLine.TheVariants.{Empty, Letter, LetterNumber, Number, Unknown}
 
@@ -13,6 +13,7 @@ capital_of byte =
     if byte == 65 then Some A
     else if byte == 66 then Some B
     else if byte == 69 then Some E
+    else if byte == 71 then Some G
     else if byte == 75 then Some K
     else if byte == 76 then Some L
     else if byte == 77 then Some M
@@ -20,6 +21,7 @@ capital_of byte =
     else if byte == 80 then Some P
     else if byte == 81 then Some Q
     else if byte == 82 then Some R
+    else if byte == 83 then Some S
     else if byte == 84 then Some T
     else if byte == 88 then Some X
     else if byte == 89 then Some Y

@@ -6,6 +6,7 @@ pub mod CommandLines
 pub mod Editing
 pub mod LogIn
 pub mod Menu
+pub mod Pages
 pub mod Says
 pub mod Top
 pub mod Writing

@@ -5,6 +5,7 @@ use Rattle.jb_menu.specs.Answers.{acting_row, listing_row, marking_row, reading_
 use Rattle.jb_menu.specs.Areas.{area_row}
 use Rattle.jb_menu.specs.Editing.{edit_subject_row, peeking_row}
 use Rattle.jb_menu.specs.LogIn.{name_row, password_row}
+use Rattle.jb_menu.specs.Pages.{paging_turn, user_at}
 use Rattle.jb_menu.specs.Says.{passed_over}
 use Rattle.jb_menu.specs.Top.{counting_row, entering_row, top_row}
 use Rattle.jb_menu.specs.Writing.{private_row, subject_row, text_row, to_row}
@@ -14,7 +15,7 @@ use Rattle.jb_menu.specs.declared.moves.Moved.{Moved}
 use Rattle.jb_menu.specs.declared.state.MenuStage.{MenuStage}
 use Rattle.jb_menu.specs.declared.state.MenuStage.TheVariants.{Acting, EditSubject, Listing, Marking, Peeking, Private, Prompt, Reading, Seeking, Subject, Text, To}
 use Rattle.jb_menu.specs.declared.state.State.{State}
-use Rattle.jb_menu.specs.declared.state.State.TheVariants.{Area, Counting, Ended, Entering, Name, Password, Top}
+use Rattle.jb_menu.specs.declared.state.State.TheVariants.{Area, Counting, Ended, Entering, Name, Paging, Password, Top}
 use Rattle.jb_menu.specs.declared.state.Visit.{Visit}
 
 -- in an area
@@ -40,6 +41,7 @@ menu_turn board (Top user) given = top_row board user given
 menu_turn board (Counting user area lines) given = counting_row board user area lines given
 menu_turn board (Entering user area) given = entering_row board user area given
 menu_turn board (Area visit stage) given = stage_turn board visit stage given
+menu_turn board (Paging place stage) given = paging_turn board place stage given
 menu_turn board Ended given = passed_over Ended
 
 -- given this, the menu does this next, and is then in this state
@@ -54,4 +56,5 @@ user_in (Top user) = Some user
 user_in (Counting user area lines) = Some user
 user_in (Entering user area) = Some user
 user_in (Area visit stage) = Some visit.user
+user_in (Paging place stage) = Some (user_at place)
 user_in Ended = None

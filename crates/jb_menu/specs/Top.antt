@@ -10,15 +10,17 @@ use Rattle.jb_text.specs.Letter.{line}
 use Rattle.jb_text.specs.Lines.{figures_text}
 use Rattle.jb_menu.specs.Boards.{area_named, counted_text, next_area}
 use Rattle.jb_menu.specs.CommandLines.{command_of}
+use Rattle.jb_menu.specs.Pages.{taking_begins, write_row}
 use Rattle.jb_menu.specs.Says.{passed_over, quit, to_area, to_top}
-use Rattle.jb_menu.specs.declared.command_line.CommandLetter.TheVariants.{A, Q}
+use Rattle.jb_menu.specs.declared.command_line.CommandLetter.TheVariants.{A, G, Q, S}
 use Rattle.jb_menu.specs.declared.command_line.CommandLine.{CommandLine}
-use Rattle.jb_menu.specs.declared.command_line.CommandLine.TheVariants.{Empty, Letter, Number}
+use Rattle.jb_menu.specs.declared.command_line.CommandLine.TheVariants.{Empty, Letter, LetterNumber, Number}
 use Rattle.jb_menu.specs.declared.given.Given.{Given}
 use Rattle.jb_menu.specs.declared.given.Given.TheVariants.{Answer, Fault, Line}
 use Rattle.jb_menu.specs.declared.given.Given.TheVariants as given
 use Rattle.jb_menu.specs.declared.moves.Move.TheVariants as move
 use Rattle.jb_menu.specs.declared.moves.Moved.{Moved}
+use Rattle.jb_menu.specs.declared.state.At.TheVariants as at
 use Rattle.jb_menu.specs.declared.state.State.TheVariants.{Counting, Entering, Top}
 
 -- the next area is counted, behind these lines; behind the last one they are said
@@ -35,7 +37,9 @@ enter_row user None = to_top user (line (fixed_text NoSuchArea))
 abbrev pub top_command : Board → ℕ → CommandLine → Moved
 top_command board user Empty = to_top user []
 top_command board user (Letter A) = count_row user [] (next_area board user 0)
+top_command board user (Letter G) = taking_begins (at.Top user)
 top_command board user (Letter Q) = quit
+top_command board user (LetterNumber S number) = write_row board (at.Top user) number
 top_command board user (Number number) = enter_row user (area_named board user number)
 top_command board user _ = to_top user (line (fixed_text UnknownCommand))
 

@@ -7,7 +7,8 @@ use crate::Given;
 use crate::command_line::{CommandLetter, CommandLine, command_of};
 use crate::lines::{fixed_to_area, passed_over, quit, say, to_area, to_top};
 use crate::moves::{Move, Moved};
-use crate::state::{MenuStage, State, Visit};
+use crate::pages::{take_pages, write_page};
+use crate::state::{At, MenuStage, State, Visit};
 use crate::writing::reply;
 use jb_base::{Bytes, OutOfMemory};
 use jb_conf::Board;
@@ -79,6 +80,7 @@ fn letter_alone(
 {
     match letter {
         CommandLetter::B => to_top(alloc, visit.user, Bytes::new(alloc)),
+        CommandLetter::G => Ok(take_pages(alloc, At::Area { visit })),
         CommandLetter::L => Ok(list(visit, 0)),
         CommandLetter::N => {
             let question = Question::Unread { from: 0, most: 1 };
@@ -115,6 +117,7 @@ fn letter_and_number(
         CommandLetter::K => Ok(ask(visit, Command::Kill { number }, MenuStage::Acting)),
         CommandLetter::L => Ok(list(visit, number)),
         CommandLetter::M => Ok(ask(visit, Command::SetMark { number }, MenuStage::Acting)),
+        CommandLetter::S => write_page(alloc, board, At::Area { visit }, number),
         CommandLetter::T => {
             let most = MOST_OF_THREAD;
             Ok(look(visit, Question::Thread { number, most }, MenuStage::Listing))

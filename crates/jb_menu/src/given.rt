@@ -2,6 +2,7 @@
 
 use jb_line::Line;
 use jb_model::Reply;
+use jb_page::{Page, PageError};
 use jb_state::{Answer, SharedFault};
 
 /// What a menu is given: a line, or what came of its last move.
@@ -16,7 +17,11 @@ pub enum Given {
     Count(u32),
     /// The answer to a request of the clock: seconds since 1970. No move of a menu asks for it.
     Moment(u32),
-    /// In place of each of these answers, why there is none.
+    /// The answer to [`crate::Move::Send`]: whether the page was sent.
+    Sent(Result<(), PageError>),
+    /// The answer to [`crate::Move::Take`]: the oldest page that waited, where there was one.
+    Page(Option<Page>),
+    /// In place of an area's answer, why there is none.
     Fault(SharedFault),
 }
 
@@ -29,6 +34,8 @@ impl Drop for Given {
             Given::Answer(_held) => {}
             Given::Count(_held) => {}
             Given::Moment(_held) => {}
+            Given::Sent(_held) => {}
+            Given::Page(_held) => {}
             Given::Fault(_held) => {}
         }
     }

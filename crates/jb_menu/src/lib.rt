@@ -16,6 +16,7 @@ mod lines;
 mod login;
 mod menu;
 mod moves;
+mod pages;
 mod state;
 mod top;
 mod writing;

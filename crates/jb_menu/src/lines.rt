@@ -1,5 +1,5 @@
 //! Whole lines, and the moves that say them.
-ghost use Rattle.std.specs.Prelude.{◌≡◌, ◌<◌, ◌++◌, IfOk, OnOk, length};
+ghost use Rattle.std.specs.Prelude.{◌≡◌, ◌<◌, ◌≤◌, ◌++◌, IfOk, OnOk, length, take};
 ghost use Rattle.jb_text.specs.Fixed.{fixed_text};
 ghost use Rattle.jb_text.specs.Faults.{fault_text};
 ghost use Rattle.jb_text.specs.Letter.{line};
@@ -15,6 +15,14 @@ use jb_model::Reply;
 use jb_state::SharedFault;
 use jb_text::{Fixed, append_line_end, fault, fixed, prompt, reply};
 use std::alloc::Global;
+
+/// So many bytes, or all where there are fewer.
+pub fn first_bytes(bytes: &[u8], most: usize) -> &[u8]
+    ensures first { result.now ≡ take most bytes.now }
+    ensures most { length result.now ≤ most }
+{
+    &bytes[..bytes.len().min(most)]
+}
 
 /// A line, with its end.
 pub fn whole(bytes: Bytes) -> Result<Bytes, OutOfMemory>

@@ -1,7 +1,7 @@
 //! The menus of one session.
 ghost use Rattle.std.specs.Prelude.{◌≡◌, ◌<◌, IfOk, OnErr, length};
 ghost use Rattle.jb_text.specs.Lines.{start_text};
-ghost use Rattle.jb_menu.specs.Awaits.{AsksHere, Awaits, IsFor, Wanted, awaited_in, wanted_by};
+ghost use Rattle.jb_menu.specs.Awaits.{AsksHere, Awaits, IsFor, Reaches, Wanted, awaited_in, wanted_by};
 ghost use Rattle.jb_menu.specs.Menu.{MenuStep, menu_turn, stage_turn, user_in};
 
 use crate::answers::{acting, listing_messages, marking, reading, seeking};
@@ -10,6 +10,7 @@ use crate::editing::{edit_subject, peeking};
 use crate::lines::passed_over;
 use crate::login::{name, password};
 use crate::moves::Moved;
+use crate::pages::paging;
 use crate::state::{MenuStage, State, Visit};
 use crate::top::{counting, entering, top};
 use crate::writing::{private, subject, text, to};
@@ -59,6 +60,7 @@ impl Menu {
                 Some(*user)
             }
             State::Area { visit, .. } => Some(visit.user),
+            State::Paging { at, .. } => Some(at.user()),
             State::Name { .. } | State::Password { .. } | State::Ended => None,
         }
     }
@@ -85,6 +87,8 @@ impl Menu {
             → IfOk result (λ step. awaited_in self.new ≡ wanted_by step) }
         // No area is asked but the one where the menu is.
         ensures here { IfOk result (λ step. AsksHere step self.new) }
+        // A page is only sent to a node of the board.
+        ensures reaches { IfOk result (λ step. Reaches board.now step) }
     {
         let state = mem::replace(&mut self.state, State::Ended);
         let moved = turn(alloc, board, state, given)?;
@@ -111,6 +115,7 @@ fn turn(alloc: Global, board: &Board, state: State, given: &Given) -> Result<Mov
         }
         State::Entering { user, area } => entering(alloc, board, user, area, given),
         State::Area { visit, stage } => stage_turn(alloc, board, visit, stage, given),
+        State::Paging { at, stage } => paging(alloc, board, at, stage, given),
         State::Ended => Ok(passed_over(alloc, State::Ended)),
     }
 }

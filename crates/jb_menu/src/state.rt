@@ -2,6 +2,7 @@
 
 ghost use Rattle.std.specs.Prelude.{◌≡◌};
 ghost use Rattle.jb_model.specs.declared.command.Command.TheVariants.{Post};
+ghost use Rattle.jb_menu.specs.Pages.{user_at};
 ghost use Rattle.jb_menu.specs.Writing.{drafted};
 
 use jb_base::{Bytes, Name};
@@ -152,6 +153,36 @@ pub enum MenuStage {
     Text { draft: Composing, text: Bytes },
 }
 
+/// Where a user is who sends or takes pages: outside of the areas, or at the prompt of one.
+#[derive(Drop)]
+pub enum At {
+    Top { user: u32 },
+    Area { visit: Visit },
+}
+
+impl At {
+    /// The place of the user on the board.
+    pub(crate) fn user(&self) -> u32
+        ensures { result ≡ user_at self.now }
+    {
+        match self {
+            At::Top { user } => *user,
+            At::Area { visit } => visit.user,
+        }
+    }
+}
+
+/// What a menu waits for where pages are sent or taken.
+#[derive(Drop)]
+pub enum PageStage {
+    /// The text of a page to this node.
+    Writing { to: u32 },
+    /// Whether the page was sent.
+    Sending,
+    /// The next page, behind the lines of those before it. So many more are taken at most.
+    Taking { lines: Bytes, left: u32 },
+}
+
 /// What a menu waits for.
 #[derive(Drop)]
 pub enum State {
@@ -167,6 +198,8 @@ pub enum State {
     Entering { user: u32, area: u32 },
     /// Something in an area.
     Area { visit: Visit, stage: MenuStage },
+    /// Something of pages, sent or taken there.
+    Paging { at: At, stage: PageStage },
     /// Nothing: the session is over.
     Ended,
 }

@@ -9,7 +9,8 @@ use crate::lines::{
     append_line, fault_line, fixed_to_top, passed_over, quit, to_area, to_top, whole,
 };
 use crate::moves::{Move, Moved};
-use crate::state::{State, Visit};
+use crate::pages::{take_pages, write_page};
+use crate::state::{At, State, Visit};
 use jb_base::{Bytes, OutOfMemory};
 use jb_conf::Board;
 use jb_state::{Answer, Question};
@@ -55,7 +56,11 @@ fn command(alloc: Global, board: &Board, user: u32, line: CommandLine) -> Result
         CommandLine::Letter(CommandLetter::A) => {
             count(alloc, user, Bytes::new(alloc), next_area(board, user, 0))
         }
+        CommandLine::Letter(CommandLetter::G) => Ok(take_pages(alloc, At::Top { user })),
         CommandLine::Letter(CommandLetter::Q) => quit(alloc),
+        CommandLine::LetterNumber(CommandLetter::S, number) => {
+            write_page(alloc, board, At::Top { user }, number)
+        }
         CommandLine::Number(number) => enter(alloc, user, area_named(board, user, number)),
         _ => fixed_to_top(alloc, user, Fixed::UnknownCommand),
     }

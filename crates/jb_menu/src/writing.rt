@@ -7,7 +7,7 @@ ghost use Rattle.jb_menu.specs.Writing.{answer_subject, answering_draft, done_ro
 
 use crate::Given;
 use crate::area::ask;
-use crate::lines::{append_line, fixed_line, fixed_to_area, passed_over, say, whole};
+use crate::lines::{append_line, first_bytes, fixed_line, fixed_to_area, passed_over, say, whole};
 use crate::moves::Moved;
 use crate::state::{Composing, DraftHead, MenuStage, Shown, State, Visit};
 use jb_base::{Bytes, MOST_POSTED_TEXT_BYTES, MOST_SUBJECT_BYTES, Name, OutOfMemory};
@@ -40,8 +40,7 @@ fn answer_subject(alloc: Global, subject: &[u8]) -> Result<Bytes, OutOfMemory>
     ensures { IfOk result (λ answer. answer ≡ answer_subject subject.now) }
 {
     let marked = marked_subject(alloc, subject)?;
-    let kept = marked.len().min(MOST_SUBJECT_BYTES);
-    Bytes::copy(alloc, &marked.as_slice()[..kept])
+    Bytes::copy(alloc, first_bytes(marked.as_slice(), MOST_SUBJECT_BYTES))
 }
 
 /// The answer to a message, without its text.

@@ -1,5 +1,5 @@
--- That each turn keeps a place at groups of the board, and asks only an area of the board, which it only reads.
-use Rattle.std.proofs.Common.{◌≡◌, ℕ, ◌+◌, ◌<◌, ◌≤◌, Bool, true, false, List, [], ◌∷◌, length, Option, Some, None, refl, arith, if◌then◌else◌, nat_lt}
+-- That each turn keeps a place at groups of the board, and asks only an area of the board, which it only reads, or the clock.
+use Rattle.std.proofs.Common.{◌≡◌, ℕ, ◌+◌, ◌≤◌, Bool, true, false, List, [], ◌∷◌, Option, Some, None, refl, arith, if◌then◌else◌, nat_lt}
 use Rattle.std.specs.Prelude.{IfSome, is_some, nat_le, ◌&&◌}
 use Rattle.std.proofs.lemmas.Bool.{leb-false}
 use Rattle.jb_conf.specs.declared.board.Board.{Board}
@@ -24,9 +24,9 @@ use Rattle.jb_news.specs.Responses.{response_text}
 use Rattle.jb_speech.specs.Conversations.{Turn}
 use Rattle.jb_speech.specs.declared.request.Act.{Act}
 use Rattle.jb_news_talk.specs.Conversations.{given_in, is_waiting}
-use Rattle.jb_news_talk.specs.Laws.{OnlyReads}
+use Rattle.jb_news_talk.specs.Laws.{OnlyReads, ReadsGroup}
 use Rattle.jb_news_talk.specs.Newsgroups.{IsGroupAt, group_of, next_group}
-use Rattle.jb_news_talk.specs.Reading.{IsPlaceOn, IsStageOn}
+use Rattle.jb_news_talk.specs.Reading.{IsPlaceOn, IsRequestOn, IsStageOn}
 use Rattle.jb_news_talk.specs.Turns.{answers, first_number, greatest, responds, tells_and_asks}
 use Rattle.jb_news_talk.specs.Listing.{listing_row, lists_next}
 use Rattle.jb_news_talk.specs.Telling.{breaks, chosen_by, goes_on_from, has_none, has_numbers, missing_of, over_in, overview_of, overviews, telling_row, tells, tells_on}
@@ -44,12 +44,12 @@ use Rattle.jb_news_talk.specs.declared.place.Told.{Told}
 use Rattle.jb_news_talk.specs.declared.place.Told.TheVariants.{Numbers, Overviews}
 use Rattle.jb_news_talk.proofs.Found.{group_on, next_on}
 
--- a turn leaves a place on the board, and waits exactly where it asks an area, which the board has and which it only reads
+-- a turn leaves a place on the board, and waits exactly where it asks: an area that the board has and that it only reads, or the clock
 pub record IsTurnOn (board : Board) (turn : Turn NewsPlace) : Type 0 where
   pub place : IsPlaceOn board turn.place
   pub waits : is_waiting turn.place.stage ≡ is_some turn.request
-  pub of : IfSome turn.request (λ one. one.area < length board.areas)
-  pub reads : IfSome turn.request (λ one. OnlyReads board one.act one.area)
+  pub of : IfSome turn.request (IsRequestOn board)
+  pub reads : IfSome turn.request (OnlyReads board)
 
 module _ (board : Board) where
   -- the group that is chosen is the board's
@@ -62,8 +62,7 @@ module _ (board : Board) where
 
   -- what is asked besides
   asks_on : (chosen : Chosen) (text : List ℕ) (awaited : NewsStage) (area : ℕ) (act : Act) → IsChosenOn chosen → IsStageOn board awaited → is_waiting awaited ≡ true → IsGroupAt board area
-      → OnlyReads board act area
-      → IsTurnOn board (tells_and_asks chosen text awaited area act)
+      → ReadsGroup board act area → IsTurnOn board (tells_and_asks chosen text awaited area act)
   asks_on chosen text awaited area act on of waits here reads =
       record { place = record { group = on; stage = of }; waits = waits; of = here.within; reads = reads }
 
@@ -169,7 +168,7 @@ module _ (board : Board) where
     command_on command.Last = last_in_on chosen.group on
     command_on (command.Over wanted) = over_on wanted chosen.group on
     command_on command.Date =
-        record { place = record { group = on; stage = record { area = tt; order = tt } }; waits = refl; of = board.in_range.area_count.0; reads = tt }
+        record { place = record { group = on; stage = record { area = tt; order = tt } }; waits = refl; of = tt; reads = tt }
     command_on command.Newgroups = responds_on fixed.NewGroups
     command_on command.Post = responds_on fixed.NotPosted
     command_on (command.Show part wanted) = show_on part wanted

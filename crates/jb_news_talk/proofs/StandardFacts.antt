@@ -27,6 +27,7 @@ use Rattle.jb_speech.specs.declared.end.TalkEnd.TheVariants.{Quit}
 use Rattle.jb_speech.specs.declared.request.Act.{Act}
 use Rattle.jb_speech.specs.declared.request.Act.TheVariants as act
 use Rattle.jb_speech.specs.declared.request.Request.{Request}
+use Rattle.jb_speech.specs.declared.request.Request.TheVariants.{Area}
 use Rattle.jb_news_talk.specs.Conversations.{end_of, given_in, manner_of}
 
 abbrev address : List ℕ
@@ -122,7 +123,7 @@ lines texts = flat_map line texts
 
 -- what the area is asked
 abbrev asks : Act → Request
-asks wanted = record { user = 0; area = 0; act = wanted }
+asks wanted = Area (record { user = 0; area = 0; act = wanted })
 
 -- a group with one message, of which this is the text
 module _ (one : Summary) (letter : Letter) where

@@ -13,6 +13,7 @@ use Rattle.jb_state.specs.declared.summary.Summary.{Summary}
 use Rattle.jb_news.specs.Responses.{end_text, response_text}
 use Rattle.jb_news.specs.declared.responses.FixedResponse.{FixedResponse}
 use Rattle.jb_speech.specs.declared.request.Act.{Act}
+use Rattle.jb_speech.specs.declared.request.Request.TheVariants.{Area}
 use Rattle.jb_news_talk.specs.Conversations.{given_in}
 use Rattle.jb_news_talk.specs.Telling.{chosen_by, goes_on_from, has_none, missing_of, tells, tells_on, told_line, up_to}
 use Rattle.jb_news_talk.specs.Turns.{answers, listing, piece, tells_and_asks}
@@ -68,7 +69,7 @@ module _ (board : Board) (messages : List Summary) (rising : IsRising messages) 
       (goes last messages rising next) enough rest
 
 -- the area answers for itself
-own_answer : (area : ℕ) (messages : List Summary) (act : Act) → lists_of area messages (record { user = 0; area = area; act = act }) ≡ lists messages act
+own_answer : (area : ℕ) (messages : List Summary) (act : Act) → lists_of area messages (Area (record { user = 0; area = area; act = act })) ≡ lists messages act
 own_answer area messages act = ap (λ (b : Bool). if b then lists messages act else given.Fault Barred) (eq-eqb area area refl)
 
 -- only an answer that has not begun can be another one

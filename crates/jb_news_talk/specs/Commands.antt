@@ -9,14 +9,13 @@ use Rattle.jb_news.specs.declared.command.NewsCommand.{NewsCommand}
 use Rattle.jb_news.specs.declared.command.NewsCommand.TheVariants as command
 use Rattle.jb_news.specs.declared.responses.FixedResponse.TheVariants as fixed
 use Rattle.jb_speech.specs.Conversations.{Turn}
-use Rattle.jb_speech.specs.declared.request.Act.TheVariants.{Clock}
 use Rattle.jb_news_talk.specs.Newsgroups.{group_of, named_lines, next_group}
 use Rattle.jb_news_talk.specs.Articles.{show_row}
 use Rattle.jb_news_talk.specs.Choosing.{chooses, chooses_again}
 use Rattle.jb_news_talk.specs.Listing.{lists_next}
 use Rattle.jb_news_talk.specs.Moving.{last_in, next_in}
 use Rattle.jb_news_talk.specs.Telling.{over_in}
-use Rattle.jb_news_talk.specs.Turns.{answers, asks, responds}
+use Rattle.jb_news_talk.specs.Turns.{answers, asks_clock, responds}
 use Rattle.jb_news_talk.specs.declared.place.Chosen.{Chosen}
 use Rattle.jb_news_talk.specs.declared.place.NewsPlace.{NewsPlace}
 use Rattle.jb_news_talk.specs.declared.place.NewsStage.TheVariants as stage
@@ -46,7 +45,7 @@ command_row board chosen (command.Listgroup (Some name) range) = chooses chosen 
 command_row board chosen command.Next = next_in chosen chosen.group
 command_row board chosen command.Last = last_in chosen chosen.group
 command_row board chosen (command.Over target) = over_in chosen target chosen.group
-command_row board chosen command.Date = asks chosen stage.Dating 0 Clock
+command_row board chosen command.Date = asks_clock chosen
 command_row board chosen command.Newgroups = responds chosen fixed.NewGroups
 command_row board chosen command.Post = responds chosen fixed.NotPosted
 command_row board chosen (command.Show part target) = show_row board chosen part target

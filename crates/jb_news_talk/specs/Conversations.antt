@@ -1,4 +1,4 @@
--- A conversation of a news reader: what is sent and asked over all bytes, with all answers of the areas, and how it ends.
+-- A conversation of a news reader: what is sent and asked over all bytes, with all answers, and how it ends.
 use Rattle.std.specs.Prelude.{ℕ, ◌==◌, Bool, true, false, List, [], if◌then◌else◌, Option, Some, None}
 use Rattle.jb_limits.specs.declared.limits.TheConstants.{MOST_SESSION_BYTES}
 use Rattle.jb_base.specs.declared.user.User.{User}
@@ -12,7 +12,7 @@ use Rattle.jb_speech.specs.Conversations.{Manner, Says, Turn}
 use Rattle.jb_speech.specs.Laws.{Talk}
 use Rattle.jb_speech.specs.declared.end.TalkEnd.{TalkEnd}
 use Rattle.jb_speech.specs.declared.end.TalkEnd.TheVariants.{Hangup, OutOfMemory, Quit, Spent, Unanswered}
-use Rattle.jb_speech.specs.declared.request.Request.{Request}
+use Rattle.jb_speech.specs.declared.request.AreaRequest.{AreaRequest}
 use Rattle.jb_news_talk.specs.Newsgroups.{news_user}
 use Rattle.jb_news_talk.specs.Listing.{listing_row}
 use Rattle.jb_news_talk.specs.Telling.{telling_row}
@@ -30,7 +30,7 @@ abbrev pub is_going : NewsStage → Bool
 is_going stage.Idle = true
 is_going _ = false
 
--- it waits for an area's answer
+-- it waits for an answer
 abbrev pub is_waiting : NewsStage → Bool
 is_waiting stage.Idle = false
 is_waiting stage.Over = false
@@ -89,6 +89,6 @@ manner_of board = record {
 abbrev pub NewsTalks : Talk
 NewsTalks board = Says (manner_of board)
 
--- each request is made for the user as whom articles are read
-abbrev pub reader_of : Board → Request → Option User
+-- each area is asked for the user as whom articles are read
+abbrev pub reader_of : Board → AreaRequest → Option User
 reader_of board request = Some (news_user board)

@@ -10,22 +10,28 @@ use Rattle.jb_model.specs.declared.command.Command.TheVariants.{Peek}
 use Rattle.jb_speech.specs.declared.end.TalkEnd.{TalkEnd}
 use Rattle.jb_speech.specs.declared.end.TalkEnd.TheVariants.{LoginRefused}
 use Rattle.jb_speech.specs.declared.request.Act.{Act}
-use Rattle.jb_speech.specs.declared.request.Act.TheVariants.{Ask, Clock, Look}
+use Rattle.jb_speech.specs.declared.request.Act.TheVariants.{Ask, Look}
 use Rattle.jb_speech.specs.declared.request.Request.{Request}
+use Rattle.jb_speech.specs.declared.request.Request.TheVariants.{Area, Clock}
 use Rattle.jb_news_talk.specs.Conversations.{NewsTalks}
 use Rattle.jb_news_talk.specs.Newsgroups.{IsGroupAt, is_group, news_user}
 
--- what is asked is to look at a group or at a message of it, or the clock: nothing is marked or changed
-abbrev pub OnlyReads : Board → Act → ℕ → Type 0
-OnlyReads board (Look question) area = IsGroupAt board area
-OnlyReads board (Ask (Peek number)) area = IsGroupAt board area
-OnlyReads board Clock area = Unit
-OnlyReads board _ area = ⊥
+-- an area is asked only to look, or for a message without a mark, and it is a group
+abbrev pub ReadsGroup : Board → Act → ℕ → Type 0
+ReadsGroup board (Look question) area = IsGroupAt board area
+ReadsGroup board (Ask (Peek number)) area = IsGroupAt board area
+ReadsGroup board _ area = ⊥
 
--- over any bytes, with any answers, each request only reads, and of the areas only groups
+-- what is asked is to look at a group or for a message of it, or what the clock shows
+abbrev pub OnlyReads : Board → Request → Type 0
+OnlyReads board (Area asked) = ReadsGroup board asked.act asked.area
+OnlyReads board Clock = Unit
+OnlyReads board _ = ⊥
+
+-- over any bytes, with any answers, each request is such a one
 abbrev pub EachOnlyReads : Type 0
 EachOnlyReads = (board : Board) (bytes out : List ℕ) (answers : List Given) (asked : List Request) (end : TalkEnd)
-    → NewsTalks board bytes answers out asked end → All (λ one. OnlyReads board one.act one.area) asked
+    → NewsTalks board bytes answers out asked end → All (OnlyReads board) asked
 
 -- in a group news sees nothing that is not to be shown, and nothing private but what bears its own name
 pub record IsOpen (board : Board) (message : Envelope) : Type 0 where

@@ -1,5 +1,5 @@
 -- Which areas are groups, and as whom they are read.
-use Rattle.std.specs.Prelude.{◌≡◌, ℕ, ◌+◌, ◌<◌, ◌==◌, ◌&&◌, nat_le, nat_lt, Bool, true, List, [], ◌∷◌, ◌++◌, codes, drop, length, position, Option, Some, None, IfSome, option_map, unwrap_or, if◌then◌else◌}
+use Rattle.std.specs.Prelude.{◌≡◌, ℕ, ◌+◌, ◌<◌, ◌==◌, ◌&&◌, nat_le, nat_lt, Bool, true, List, [], ◌∷◌, codes, drop, length, position, Option, Some, None, IfSome, option_map, unwrap_or, if◌then◌else◌}
 use Rattle.std.specs.List.{flat_map, slice_get}
 use Rattle.jb_base.specs.declared.user.User.{User}
 use Rattle.jb_conf.specs.declared.board.Board.{Board}

@@ -10,6 +10,7 @@ use Rattle.jb_news.specs.declared.numbers.NumberRange.{NumberRange}
 use Rattle.jb_speech.specs.Conversations.{HasSaid, Held}
 use Rattle.jb_speech.specs.Posture.{Posture}
 use Rattle.jb_speech.specs.declared.request.Request.{Request}
+use Rattle.jb_speech.specs.declared.request.Request.TheVariants.{Area, Clock}
 use Rattle.jb_speech.specs.declared.speaker.TheConstants.{MOST_PIECE_BYTES}
 use Rattle.jb_news_talk.specs.Conversations.{end_of, is_going, is_waiting, manner_of}
 use Rattle.jb_news_talk.specs.Newsgroups.{IsGroupAt, news_user}
@@ -52,12 +53,18 @@ pub record IsPlaceOn (board : Board) (place : NewsPlace) : Type 0 where
   pub group : IfSome place.chosen.group (IsGroupAt board)
   pub stage : IsStageOn board place.stage
 
+-- an area that is asked is the board's, and no page is sent or taken
+abbrev pub IsRequestOn : Board → Request → Type 0
+IsRequestOn board (Area asked) = asked.area < length board.areas
+IsRequestOn board Clock = Unit
+IsRequestOn board _ = ⊥
+
 -- the conversation is one on this board, and waits for an answer exactly where it hands out a request
 pub record NewsHands (board : Board) (talk : NewsTalking) (request : Option Request) : Type 0 where
   pub user : talk.user ≡ news_user board
   pub place : IsPlaceOn board talk.held.place
   pub waits : is_waiting talk.held.place.stage ≡ is_some request
-  pub of : IfSome request (λ one. one.area < length board.areas)
+  pub of : IfSome request (IsRequestOn board)
 
 -- from the first number of a range to the last
 abbrev pub spread : Option NumberRange → ℕ

@@ -7,6 +7,7 @@ use Rattle.jb_news.specs.declared.responses.FixedResponse.{FixedResponse}
 use Rattle.jb_speech.specs.Conversations.{Turn}
 use Rattle.jb_speech.specs.declared.request.Act.{Act}
 use Rattle.jb_speech.specs.declared.request.Act.TheVariants.{Look}
+use Rattle.jb_speech.specs.declared.request.Request.TheVariants.{Area, Clock}
 use Rattle.jb_news_talk.specs.declared.place.Chosen.{Chosen}
 use Rattle.jb_news_talk.specs.declared.place.NewsPlace.{NewsPlace}
 use Rattle.jb_news_talk.specs.declared.place.NewsStage.{NewsStage}
@@ -31,11 +32,15 @@ responds chosen response = answers chosen (response_text response)
 -- these bytes are sent, and the area is asked this, whose answer is awaited at a stage
 abbrev pub tells_and_asks : Chosen → List ℕ → NewsStage → ℕ → Act → Turn NewsPlace
 tells_and_asks chosen text awaited area act =
-    record { place = record { chosen = chosen; stage = awaited }; text = text; request = Some (record { user = 0; area = area; act = act }) }
+    record { place = record { chosen = chosen; stage = awaited }; text = text; request = Some (Area (record { user = 0; area = area; act = act })) }
 
 -- the area is asked this
 abbrev pub asks : Chosen → NewsStage → ℕ → Act → Turn NewsPlace
 asks chosen awaited area act = tells_and_asks chosen [] awaited area act
+
+-- the clock is asked
+abbrev pub asks_clock : Chosen → Turn NewsPlace
+asks_clock chosen = record { place = record { chosen = chosen; stage = stage.Dating }; text = []; request = Some Clock }
 
 -- the messages from a number on, at most so many
 abbrev pub listing : ℕ → ℕ → Act

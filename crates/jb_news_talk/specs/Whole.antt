@@ -14,6 +14,7 @@ use Rattle.jb_speech.specs.Conversations.{Turn}
 use Rattle.jb_speech.specs.declared.request.Act.{Act}
 use Rattle.jb_speech.specs.declared.request.Act.TheVariants.{Look}
 use Rattle.jb_speech.specs.declared.request.Request.{Request}
+use Rattle.jb_speech.specs.declared.request.Request.TheVariants.{Area}
 use Rattle.jb_news_talk.specs.Conversations.{given_turn}
 use Rattle.jb_news_talk.specs.Telling.{begins, has_numbers, told_line}
 use Rattle.jb_news_talk.specs.declared.place.Chosen.{Chosen}
@@ -32,7 +33,8 @@ lists messages _ = given.Fault Barred
 
 -- what the board answers of which one area has these messages
 abbrev pub lists_of : ℕ → List Summary → Request → Given
-lists_of area messages request = if request.area == area then lists messages request.act else given.Fault Barred
+lists_of area messages (Area asked) = if asked.area == area then lists messages asked.act else given.Fault Barred
+lists_of area messages _ = given.Fault Barred
 
 -- the turn behind this one, where the board answers so; where nothing is asked, nothing more is sent
 abbrev pub turn_behind : Board → ℕ → List Summary → NewsPlace → Option Request → Turn NewsPlace

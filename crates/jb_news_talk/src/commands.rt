@@ -10,11 +10,10 @@ use crate::moving::{last, next};
 use crate::newsgroups::{append_named_lines, group_of, next_group};
 use crate::place::{Chosen, NewsPlace, NewsStage};
 use crate::telling::over;
-use crate::turn::{NewsTurn, answer, ask, respond};
+use crate::turn::{NewsTurn, answer, ask_clock, respond};
 use jb_base::OutOfMemory;
 use jb_conf::Board;
 use jb_news::{FixedResponse, LineText, NewsCommand, append_end, response};
-use jb_speech::Act;
 use std::alloc::Global;
 
 /// The list of the groups that a wildmat takes, with their figures.
@@ -86,7 +85,7 @@ pub(crate) fn command(
         NewsCommand::Next => next(alloc, chosen),
         NewsCommand::Last => last(alloc, chosen),
         NewsCommand::Over(target) => over(alloc, chosen, target),
-        NewsCommand::Date => Ok(ask(alloc, chosen, NewsStage::Dating, 0, Act::Clock)),
+        NewsCommand::Date => Ok(ask_clock(alloc, chosen)),
         NewsCommand::Newgroups => respond(alloc, chosen, FixedResponse::NewGroups),
         NewsCommand::Post => respond(alloc, chosen, FixedResponse::NotPosted),
         NewsCommand::Show(part, target) => show(alloc, board, chosen, part, target),

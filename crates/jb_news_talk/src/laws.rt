@@ -2,8 +2,8 @@
 ghost use Rattle.jb_news_talk.specs.Laws.{EachOnlyReads, NeverRefused, SeesOpenOnly};
 ghost use Rattle.jb_news_talk.specs.Whole.{ListsAreWhole};
 
-/// Over any lines, with any answers, each request looks at a group or at a message of it, or asks what the clock shows: nothing is marked or
-/// changed, and no other area is asked.
+/// Over any lines, with any answers, each request looks at a group, or peeks at a message of it, or asks what the clock shows: no other area
+/// is asked, no other act is asked of one, and no page is sent or taken.
 ///
 /// It computes nothing: its contract is the law.
 pub fn news_only_reads()

@@ -1,4 +1,4 @@
-//! What a news connection says and asks, as one function of the lines of its reader and of the answers of the areas (RFC 3977).
+//! What a news connection says and asks, as one function of the lines of its reader and of what is answered (RFC 3977).
 //!
 //! The layer above may rely on this: whatever the pieces in which the bytes come, what a [`NewsTalk`] has handed out is what the definition of
 //! a conversation in `specs/` says of all of them, with these answers (`NewsHasTalked`). Lists are asked for in pieces of 100 messages, and what

@@ -19,7 +19,7 @@ use jb_base::{MOST_SESSION_BYTES, OutOfMemory, User};
 use jb_conf::Board;
 use jb_menu::Given;
 use jb_news::{LineCutter, NewsLine, command_of, greeting, lines_are_cut_one_way};
-use jb_speech::{Heard, MOST_PIECE_BYTES, Request, Speaker, TalkEnd};
+use jb_speech::{AreaRequest, Heard, MOST_PIECE_BYTES, Request, Speaker, TalkEnd};
 use std::alloc::Global;
 use std::marker::Model;
 use std::mem;
@@ -168,6 +168,8 @@ impl Speaker for NewsTalk {
 
     ghost user_of = { reader_of };
 
+    ghost reach = { λ board. 0 };
+
     fn start(alloc: Global, board: &Board) -> Result<Self, OutOfMemory> {
         Ok(NewsTalk {
             cutter: LineCutter::new(),
@@ -222,7 +224,7 @@ impl Speaker for NewsTalk {
         }
     }
 
-    fn user_of<'a>(&'a self, board: &'a Board, request: &Request) -> &'a User {
+    fn user_of<'a>(&'a self, board: &'a Board, request: &AreaRequest) -> &'a User {
         &self.user
     }
 

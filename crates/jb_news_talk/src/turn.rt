@@ -1,11 +1,11 @@
 //! What a line or an answer leads to.
 ghost use Rattle.std.specs.Prelude.{◌≡◌, IfOk};
-ghost use Rattle.jb_news_talk.specs.Turns.{answers, asks, listing, responds, tells_and_asks};
+ghost use Rattle.jb_news_talk.specs.Turns.{answers, asks, asks_clock, listing, responds, tells_and_asks};
 
 use crate::place::{Chosen, NewsPlace, NewsStage};
 use jb_base::{Bytes, OutOfMemory};
 use jb_news::{FixedResponse, response};
-use jb_speech::{Act, Request};
+use jb_speech::{Act, AreaRequest, Request};
 use jb_state::Question;
 use std::alloc::Global;
 use std::marker::Model;
@@ -65,7 +65,7 @@ pub(crate) fn tell_and_ask(
     NewsTurn {
         place: NewsPlace { chosen, stage },
         text,
-        request: Some(Request { user: 0, area, act }),
+        request: Some(Request::Area(AreaRequest { user: 0, area, act })),
     }
 }
 
@@ -74,6 +74,20 @@ pub(crate) fn ask(alloc: Global, chosen: Chosen, stage: NewsStage, area: u32, ac
     ensures { result ≡ asks chosen stage area act }
 {
     tell_and_ask(chosen, Bytes::new(alloc), stage, area, act)
+}
+
+/// Asks the clock.
+pub(crate) fn ask_clock(alloc: Global, chosen: Chosen) -> NewsTurn
+    ensures { result ≡ asks_clock chosen }
+{
+    NewsTurn {
+        place: NewsPlace {
+            chosen,
+            stage: NewsStage::Dating,
+        },
+        text: Bytes::new(alloc),
+        request: Some(Request::Clock),
+    }
 }
 
 /// The messages from a number on, at most so many.

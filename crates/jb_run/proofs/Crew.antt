@@ -1,18 +1,20 @@
 -- Workers as they are made ready, and as they have worked.
 use Rattle.std.proofs.Common.{◌≡◌, ◌≢◌, ℕ, ◌+◌, ◌-◌, ◌<◌, ◌≤◌, ◌==◌, Bool, true, false, ◌||◌, List, [], ◌∷◌, ◌++◌, get_or, length, map, refl, sym, ap, subst, ◌∙◌, arith}
-use Rattle.std.specs.Prelude.{All, IfErr, Option, Result, Ok, Err}
+use Rattle.std.specs.Prelude.{All, IfErr, Option, Some, None, Result, Ok, Err}
 use Rattle.std.specs.List.{AllZip}
 use Rattle.jb_base.specs.declared.user.User.{User}
 use Rattle.jb_limits.specs.declared.limits.TheConstants.{MOST_NAME_BYTES}
 use Rattle.std.proofs.lemmas.Bool.Decides.{nat_tests}
 use Rattle.std.proofs.lemmas.List.{append-nil, get_or-map, get_or_append_left, get_or_push, length-map, length_push, map_push, same_from_push}
 use Rattle.std.proofs.lemmas.List.Elements.{All-push}
+use Rattle.std.proofs.lemmas.Option.{none-some}
 use Rattle.jb_conf.specs.declared.board.Board.{Board}
 use Rattle.jb_run.specs.All.{any}
 use Rattle.jb_host.specs.Desk.{Desk, GivesDoor, RefusesCall, TakesBell, asked_bell}
 use Rattle.jb_host.specs.declared.host.HostError.{HostError}
 use Rattle.jb_host.specs.Gate.{Gate}
 use Rattle.jb_host.specs.Rings.{Rings}
+use Rattle.jb_page.specs.Pagers.{HasPager, IsPagerOf, PagerView, PagesView}
 use Rattle.jb_server.specs.Rounds.{PackerWorks}
 use Rattle.jb_server.specs.Sessions.{ServedAs, Works}
 use Rattle.jb_server.specs.Tallies.{no_tally}
@@ -30,12 +32,15 @@ use Rattle.jb_session.specs.declared.end.SessionEnd.{SessionEnd}
 use Rattle.jb_shared.specs.Passes.{PassView}
 use Rattle.jb_shared.specs.declared.shared.SharedArea.{SharedArea}
 use Rattle.jb_run.specs.Lines.{HandsDoors, Line, PutsDoors, asked_line, lines_for}
-use Rattle.jb_run.specs.Workers.{HasDoor, HasLine, HasWorkers, HaveOwn, IsFresh, IsFreshSlot, PackerIsReady, PartsLast, Rows, StopsAt, gate_of, gates_of, number_of, numbers_of, packer, worker_passes, tallies_of, tally_of, with_passes}
+use Rattle.jb_run.specs.Workers.{HasLine, HasWorkers, HaveOwn, IsFresh, IsFreshSlot, PackerIsReady, PartsLast, Rows, StopsAt, gate_of, gates_of, number_of, numbers_of, packer, worker_pager, worker_passes, pager_number, pagers_of, tallies_of, tally_of, with_passes}
+use Rattle.jb_run.specs.NodePages.{ArePagersOf, HasPaged, pager_of}
 use Rattle.jb_run.specs.Working.{AreAllOf, WorkAll, WorkToTheEnd, row_of}
+use Rattle.jb_run.proofs.EachLemmas.{all_most}
 use Rattle.jb_run.proofs.Doors.{hands_more, hands_none, puts_more, puts_none}
 use Rattle.jb_run.proofs.Lists.{any_push, last_of, one_of}
 use Rattle.jb_run.proofs.Numbers.{line_with}
 use Rattle.jb_run.proofs.Own.{crew_own, length-with_passes, numbers_are, of_line, own_last, row_is}
+use Rattle.jb_run.proofs.PagerLemmas.{are_pagers, each_pager, number_kept, pager_is}
 use Rattle.jb_run.proofs.Zips.{zip_at, zip_long, zip_of, zip_push}
 
 module _ {R B C : Type 0} (gate : R → Gate) (readings : C → Option (List ℕ)) (door_for : Option ℕ → Gate → Type 0) (most : Option ℕ) where
@@ -98,31 +103,31 @@ module _ {R B C : Type 0} (gate : R → Gate) (rings : B → Rings) (readings : 
   pub record LineIsDone (line : Line) (old new : Worker R B C) : Type 0 where
     pub is : HasLine line new
     pub left : Option (List ℕ)
-    pub works : Works (ServedAs line.service board) (gate_of gate old) (node_with told (worker_passes old)) no_tally
-        (gate_of gate new) (node_with left (worker_passes new)) (tally_of new)
+    pub works : Works (ServedAs line.service board) (gate_of gate old) (node_with told (worker_passes old) (worker_pager old)) no_tally
+        (gate_of gate new) (node_with left (worker_passes new) (worker_pager new)) (tally_of new)
 
   slot_done : (service : Service) (old new : NodeSlot R C) → IsFreshSlot readings told old → HasServed gate readings board service old new
-      → Works (ServedAs service board) (gate old.door) (node_with told old.passes.items) no_tally (gate new.door) (node_with (readings new.clock) new.passes.items) new.tally
+      → Works (ServedAs service board) (gate old.door) (node_with told old.passes.items old.pager) no_tally (gate new.door) (node_with (readings new.clock) new.passes.items new.pager) new.tally
   slot_done service old new ready worked =
-      let to = node_with (readings new.clock) new.passes.items in
-      let P : Option (List ℕ) → Type 0 = λ r. Works (ServedAs service board) (gate old.door) (node_with r old.passes.items) no_tally (gate new.door) to new.tally in
-      let Q : Tally → Type 0 = λ t. Works (ServedAs service board) (gate old.door) (node_with (readings old.clock) old.passes.items) t (gate new.door) to new.tally in
+      let to = node_with (readings new.clock) new.passes.items new.pager in
+      let P : Option (List ℕ) → Type 0 = λ r. Works (ServedAs service board) (gate old.door) (node_with r old.passes.items old.pager) no_tally (gate new.door) to new.tally in
+      let Q : Tally → Type 0 = λ t. Works (ServedAs service board) (gate old.door) (node_with (readings old.clock) old.passes.items old.pager) t (gate new.door) to new.tally in
       subst P ready.clock (subst Q ready.none worked.works)
 
   line_done : (line : Line) (old new : Worker R B C) → HasLine line old → IsFresh readings told old → HasWorked gate rings readings board old new → LineIsDone line old new
   line_done line (Node old) (Node new) is ready worked =
-      let P : Service → Type 0 = λ s. Works (ServedAs s board) (gate old.door) (node_with told old.passes.items) no_tally
-      (gate new.door) (node_with (readings new.clock) new.passes.items) new.tally in
-      record { is = (is.0, worked.node ∙ is.1); left = readings new.clock; works = subst P (sym is.0) (slot_done service.Menus old new ready worked) }
+      let P : Service → Type 0 = λ s. Works (ServedAs s board) (gate old.door) (node_with told old.passes.items old.pager) no_tally
+      (gate new.door) (node_with (readings new.clock) new.passes.items new.pager) new.tally in
+      record { is = (is.0, worked.node ∙ is.1, number_kept old.pager new.pager worked.pager ∙ is.2); left = readings new.clock; works = subst P (sym is.0) (slot_done service.Menus old new ready worked) }
   line_done line (Node old) (Packer new) is ready worked = absurd worked
   line_done line (Node old) (News new) is ready worked = absurd worked
   line_done line (Packer old) new is ready worked = absurd is
   line_done line (News old) (Node new) is ready worked = absurd worked
   line_done line (News old) (Packer new) is ready worked = absurd worked
   line_done line (News old) (News new) is ready worked =
-      let P : Service → Type 0 = λ s. Works (ServedAs s board) (gate old.door) (node_with told old.passes.items) no_tally
-      (gate new.door) (node_with (readings new.clock) new.passes.items) new.tally in
-      record { is = (is.0, worked.node ∙ is.1); left = readings new.clock; works = subst P (sym is.0) (slot_done service.News old new ready worked) }
+      let P : Service → Type 0 = λ s. Works (ServedAs s board) (gate old.door) (node_with told old.passes.items old.pager) no_tally
+      (gate new.door) (node_with (readings new.clock) new.passes.items new.pager) new.tally in
+      record { is = (is.0, worked.node ∙ is.1, number_kept old.pager new.pager worked.pager ∙ is.2); left = readings new.clock; works = subst P (sym is.0) (slot_done service.News old new ready worked) }
 
   packer_done : (old : PackSlot B C) (new : Worker R B C) → HasWorked gate rings readings board (Packer old) new
       → (slot : PackSlot B C) × (new ≡ Packer slot) × PackerHasWorked rings readings old slot
@@ -199,7 +204,7 @@ module _ {R B C : Type 0} (gate : R → Gate) (rings : B → Rings) (readings : 
       → AllZip HasLine (lines_for board most) workers → PackerIsReady readings told board slot → length rows ≡ length (lines_for board most) + 1
       → HaveOwn (length rows) (workers ++ Packer slot ∷ []) → HaveOwn (length rows) (done.front ++ Packer done.last ∷ [])
       → WorkAll told board (lines_for board most) (gates_of gate workers) (gates_of gate done.front) (rings slot.bell) (rings done.last.bell)
-      (with_passes (workers ++ Packer slot ∷ []) rows) (with_passes (done.front ++ Packer done.last ∷ []) rows) (tallies_of done.front)
+      (with_passes (workers ++ Packer slot ∷ []) rows) (with_passes (done.front ++ Packer done.last ∷ []) rows) (pagers_of workers) (pagers_of done.front) (tallies_of done.front)
   all_worked most workers slot after rows done each ready many own own_after =
       let lines : List Line = lines_for board most in
       let front = done.front in
@@ -222,10 +227,10 @@ module _ {R B C : Type 0} (gate : R → Gate) (rings : B → Rings) (readings : 
             let is = done.lines_done k line absent low in
             let its : Line = get_or lines k line in
             same_work its (get_or (gates_of gate workers) k one) (gate_of gate (get_or workers k absent)) (row_of from its) (worker_passes (get_or workers k absent))
-            (get_or (gates_of gate front) k other) (gate_of gate (get_or front k absent)) (row_of to its) (worker_passes (get_or front k absent))
-            (get_or (tallies_of front) k tally) (tally_of (get_or front k absent))
-            (get_or-map (gate_of gate) workers k absent one low) (row_in workers (Packer slot) lines each k line absent own low)
-            (get_or-map (gate_of gate) front k absent other low_after) (row_in front (Packer last) lines still k line absent own_after low_after)
+            (pager_of (pagers_of workers) its) (worker_pager (get_or workers k absent)) (get_or (gates_of gate front) k other) (gate_of gate (get_or front k absent)) (row_of to its) (worker_passes (get_or front k absent))
+            (pager_of (pagers_of front) its) (worker_pager (get_or front k absent)) (get_or (tallies_of front) k tally) (tally_of (get_or front k absent))
+            (get_or-map (gate_of gate) workers k absent one low) (row_in workers (Packer slot) lines each k line absent own low) (pager_is board most workers each k line absent low)
+            (get_or-map (gate_of gate) front k absent other low_after) (row_in front (Packer last) lines still k line absent own_after low_after) (pager_is board most front still k line absent low_after)
             (get_or-map tally_of front k absent tally low_after) is.left is.works;
         packs = last.packs;
         left = readings last.clock;
@@ -257,69 +262,92 @@ module _ {R B C : Type 0} (gate : R → Gate) (rings : B → Rings) (readings : 
           sym (ap (λ (k : ℕ). get_or (with_passes all rows) k []) place)
           ∙ row_is all rows (length workers) one own (omega (arith, length_push workers one)) ∙ ap worker_passes at
 
-      same_work : (line : Line) (a a' : Gate) (b b' : List PassView) (c c' : Gate) (d d' : List PassView) (e e' : Tally) → a ≡ a' → b ≡ b' → c ≡ c' → d ≡ d' → e ≡ e'
-          → (left : Option (List ℕ)) → Works (ServedAs line.service board) a' (node_with told b') no_tally c' (node_with left d') e'
-          → (left : Option (List ℕ)) × Works (ServedAs line.service board) a (node_with told b) no_tally c (node_with left d) e
-      same_work line a a' b b' c c' d d' e e' p q r s t left works =
+      same_work : (line : Line) (a a' : Gate) (b b' : List PassView) (m m' : Option PagerView) (c c' : Gate) (d d' : List PassView) (n n' : Option PagerView) (e e' : Tally)
+          → a ≡ a' → b ≡ b' → m ≡ m' → c ≡ c' → d ≡ d' → n ≡ n' → e ≡ e'
+          → (left : Option (List ℕ)) → Works (ServedAs line.service board) a' (node_with told b' m') no_tally c' (node_with left d' n') e'
+          → (left : Option (List ℕ)) × Works (ServedAs line.service board) a (node_with told b m) no_tally c (node_with left d n) e
+      same_work line a a' b b' m m' c c' d d' n n' e e' p q u r s v t left works =
           let V : Wire → NodeState → SessionEnd → Wire → NodeState → Type 0 = ServedAs line.service board in (
             left,
-            subst (λ (x : Gate). Works V x (node_with told b) no_tally c (node_with left d) e) (sym p)
-                (subst (λ (x : List PassView). Works V a' (node_with told x) no_tally c (node_with left d) e) (sym q)
-                (subst (λ (x : Gate). Works V a' (node_with told b') no_tally x (node_with left d) e) (sym r)
-                (subst (λ (x : List PassView). Works V a' (node_with told b') no_tally c' (node_with left x) e) (sym s)
-                (subst (λ (x : Tally). Works V a' (node_with told b') no_tally c' (node_with left d') x) (sym t) works)))),
+            subst (λ (x : Gate). Works V x (node_with told b m) no_tally c (node_with left d n) e) (sym p)
+                (subst (λ (x : List PassView). Works V a' (node_with told x m) no_tally c (node_with left d n) e) (sym q)
+                (subst (λ (x : Option PagerView). Works V a' (node_with told b' x) no_tally c (node_with left d n) e) (sym u)
+                (subst (λ (x : Gate). Works V a' (node_with told b' m') no_tally x (node_with left d n) e) (sym r)
+                (subst (λ (x : List PassView). Works V a' (node_with told b' m') no_tally c' (node_with left x n) e) (sym s)
+                (subst (λ (x : Option PagerView). Works V a' (node_with told b' m') no_tally c' (node_with left d' x) e) (sym v)
+                (subst (λ (x : Tally). Works V a' (node_with told b' m') no_tally c' (node_with left d' n') x) (sym t) works)))))),
           )
 
       packs_so : (one other : PackSlot B C) (b d : List PassView) → b ≡ one.passes.items → d ≡ other.passes.items → PackerIsReady readings told board one
           → PackerHasWorked rings readings one other
-          → PackerWorks packer (rings one.bell) (node_with told b) 0 (rings other.bell) (node_with (readings other.clock) d) other.packs
+          → PackerWorks packer (rings one.bell) (node_with told b None) 0 (rings other.bell) (node_with (readings other.clock) d None) other.packs
       packs_so one other b d q s fresh worked =
-          let to = node_with (readings other.clock) other.passes.items in
-          subst (λ (x : List PassView). PackerWorks packer (rings one.bell) (node_with told x) 0 (rings other.bell) (node_with (readings other.clock) d) other.packs) (sym q)
-          (subst (λ (x : List PassView). PackerWorks packer (rings one.bell) (node_with told one.passes.items) 0 (rings other.bell) (node_with (readings other.clock) x) other.packs) (sym s)
-          (subst (λ (n : ℕ). PackerWorks packer (rings one.bell) (node_with told one.passes.items) n (rings other.bell) to other.packs) fresh.none
-          (subst (λ (u : _). PackerWorks u (rings one.bell) (node_with told one.passes.items) one.packs (rings other.bell) to other.packs) fresh.user
-          (subst (λ (r : Option (List ℕ)). PackerWorks one.user (rings one.bell) (node_with r one.passes.items) one.packs (rings other.bell) to other.packs) fresh.clock
+          let to = node_with (readings other.clock) other.passes.items None in
+          subst (λ (x : List PassView). PackerWorks packer (rings one.bell) (node_with told x None) 0 (rings other.bell) (node_with (readings other.clock) d None) other.packs) (sym q)
+          (subst (λ (x : List PassView). PackerWorks packer (rings one.bell) (node_with told one.passes.items None) 0 (rings other.bell) (node_with (readings other.clock) x None) other.packs) (sym s)
+          (subst (λ (n : ℕ). PackerWorks packer (rings one.bell) (node_with told one.passes.items None) n (rings other.bell) to other.packs) fresh.none
+          (subst (λ (u : _). PackerWorks u (rings one.bell) (node_with told one.passes.items None) one.packs (rings other.bell) to other.packs) fresh.user
+          (subst (λ (r : Option (List ℕ)). PackerWorks one.user (rings one.bell) (node_with r one.passes.items None) one.packs (rings other.bell) to other.packs) fresh.clock
           worked.works))))
 
--- workers with these passes are at work on areas of which they have all
-module _ {D R B C : Type 0} (areas : List (SharedArea D)) where
+-- workers with these passes and pagers are at work on areas of which they have all, and on these pages
+module _ {D R B C : Type 0} (areas : List (SharedArea D)) (pages : PagesView) (board : Board) where
   -- they have passes of all areas
-  passes_all : (one : Worker R B C) → IsAtWork areas one → AreOf areas (worker_passes one)
-  passes_all (Node slot) at = at
+  passes_all : (one : Worker R B C) → IsAtWork areas pages board one → AreOf areas (worker_passes one)
+  passes_all (Node slot) at = at.0
   passes_all (Packer slot) at = at.0
-  passes_all (News slot) at = at
+  passes_all (News slot) at = at.0
 
-  -- who has a door and passes of all is at work
-  at_work : (one : Worker R B C) → HasDoor one → AreOf areas (worker_passes one) → IsAtWork areas one
-  at_work (Node slot) door ours = ours
-  at_work (Packer slot) door ours = absurd door
-  at_work (News slot) door ours = ours
+  -- and pagers of these pages
+  pub pager_at_work : (one : Worker R B C) → IsAtWork areas pages board one → (pager : PagerView) → worker_pager one ≡ Some pager → IsPagerOf pages pager
+  pager_at_work (Node slot) at pager is = (subst (HasPager pages board.nodes) is at.1).0
+  pager_at_work (Packer slot) at pager is = absurd (none-some pager is)
+  pager_at_work (News slot) at pager is = (subst (HasPager pages 0) is at.1).0
+
+  -- who serves a line with passes of all, and with a pager of these pages where one is needed, is at work
+  at_work : pages.nodes ≡ board.nodes → (line : Line) (one : Worker R B C) → HasLine line one → AreOf areas (worker_passes one)
+      → ((pager : PagerView) → worker_pager one ≡ Some pager → IsPagerOf pages pager) → IsAtWork areas pages board one
+  at_work between line (Node slot) is ours of = (ours, by slot.pager refl)
+    where
+      by : (pager : Option PagerView) → slot.pager ≡ pager → HasPager pages board.nodes pager
+      by None none = absurd (none-some line.node (sym (ap pager_number none) ∙ is.2))
+      by (Some pager) has = (of pager has, omega (arith, between))
+  at_work between line (Packer slot) is ours of = absurd is
+  at_work between line (News slot) is ours of = (ours, by slot.pager refl)
+    where
+      by : (pager : Option PagerView) → slot.pager ≡ pager → HasPager pages 0 pager
+      by None none = refl
+      by (Some pager) has = (of pager has, omega arith)
 
   -- workers and the packer, with passes of all, are at work
-  pub all_at_work : (workers : List (Worker R B C)) (slot : PackSlot B C) (rows : Rows) → All HasDoor workers → HaveOwn (length rows) (workers ++ Packer slot ∷ [])
-      → AreAllOf areas (with_passes (workers ++ Packer slot ∷ []) rows) → length slot.user.name ≤ MOST_NAME_BYTES → All (IsAtWork areas) (workers ++ Packer slot ∷ [])
-  all_at_work workers slot rows doors own ours name =
+  pub all_at_work : (most : Option ℕ) (workers : List (Worker R B C)) (slot : PackSlot B C) (rows : Rows) → AllZip HasLine (lines_for board most) workers
+      → HaveOwn (length rows) (workers ++ Packer slot ∷ []) → AreAllOf areas (with_passes (workers ++ Packer slot ∷ []) rows) → length slot.user.name ≤ MOST_NAME_BYTES
+      → pages.nodes ≡ board.nodes → All (IsPagerOf pages) (pagers_of workers) → All (IsAtWork areas pages board) (workers ++ Packer slot ∷ [])
+  all_at_work most workers slot rows each own ours name between of =
       let all : List (Worker R B C) = workers ++ Packer slot ∷ [] in
       let theirs : (k : ℕ) (absent : Worker R B C) → k < length all → AreOf areas (worker_passes (get_or all k absent))
       = λ k absent low.
       let in_range = own.within k absent low in
       subst (AreOf areas) (row_is all rows k absent own low)
       (ours (number_of (get_or all k absent) - 1) (omega (arith, in_range.0, in_range.1, length-with_passes all rows))) in
-      All-push (IsAtWork areas) workers (Packer slot)
-      (λ k absent low. at_work (get_or workers k absent) (doors k absent low)
+      All-push (IsAtWork areas pages board) workers (Packer slot)
+      (λ k absent low.
+      let within : k < length (lines_for board most) = omega (arith, low, zip_long HasLine (lines_for board most) workers each) in
+      let none : Line = one_of (lines_for board most) k within in
+      at_work between (get_or (lines_for board most) k none) (get_or workers k absent) (zip_at HasLine (lines_for board most) workers k none absent each within)
       (subst (λ (w : Worker R B C). AreOf areas (worker_passes w)) (get_or_append_left workers (Packer slot ∷ []) absent k low)
-      (theirs k absent (omega (arith, low, length_push workers (Packer slot)))))) (
+      (theirs k absent (omega (arith, low, length_push workers (Packer slot)))))
+      (λ pager is. each_pager board most workers each (IsPagerOf pages) of k absent pager low is)) (
         subst (λ (w : Worker R B C). AreOf areas (worker_passes w)) (get_or_push workers (Packer slot) (Packer slot) (length workers) refl)
             (theirs (length workers) (Packer slot) (omega (arith, length_push workers (Packer slot)))),
         name,
       )
 
   -- and have them still when they are done
-  pub all_of_still : (board : Board) (most : Option ℕ) (workers : List (Worker R B C)) (packer : Worker R B C) (rows : Rows) → AllZip HasLine (lines_for board most) workers
+  pub all_of_still : (most : Option ℕ) (workers : List (Worker R B C)) (packer : Worker R B C) (rows : Rows) → AllZip HasLine (lines_for board most) workers
       → number_of packer ≡ board.nodes + 1 → length rows ≡ length (lines_for board most) + 1 → HaveOwn (length rows) (workers ++ packer ∷ [])
-      → All (IsAtWork areas) (workers ++ packer ∷ []) → AreAllOf areas (with_passes (workers ++ packer ∷ []) rows)
-  all_of_still board most workers packer rows each number many own work n within = by (n == board.nodes) refl
+      → All (IsAtWork areas pages board) (workers ++ packer ∷ []) → AreAllOf areas (with_passes (workers ++ packer ∷ []) rows)
+  all_of_still most workers packer rows each number many own work n within = by (n == board.nodes) refl
     where
       all : List (Worker R B C)
       all = workers ++ packer ∷ []
@@ -403,15 +431,25 @@ module _ {R B C : Type 0} (gate : R → Gate) (rings : B → Rings) (readings : 
       let same = same_from_push fewer done.front (Packer one) (Packer done.last) (sym parts ∙ done.is) in
       (same.0, same_slot one done.last (Packer one) (Packer done.last) refl refl same.1)
 
+  -- and their pagers: one of these pages for each node
+  pub left_pagers : {D : Type 0} (areas : List (SharedArea D)) (pages : PagesView) (most : Option ℕ) (workers : List (Worker R B C)) (slot : PackSlot B C) (after fewer : List (Worker R B C)) (one : PackSlot B C)
+      (done : AreDone gate rings readings told board (lines_for board most) workers slot after) → AllZip HasLine (lines_for board most) done.front → after ≡ fewer ++ Packer one ∷ []
+      → pages.nodes ≡ board.nodes → All (IsAtWork areas pages board) after → ArePagersOf pages (pagers_of fewer)
+  left_pagers areas pages most workers slot after fewer one done still parts between work =
+      let same = left_front (lines_for board most) workers slot after fewer one done parts in
+      let theirs = all_most (IsAtWork areas pages board) fewer (Packer one) (subst (λ (l : List (Worker R B C)). All (IsAtWork areas pages board) l) parts work) in
+      are_pagers board most fewer (subst (λ (l : List (Worker R B C)). AllZip HasLine (lines_for board most) l) (sym same.0) still) pages between
+      (λ k absent pager low is. pager_at_work areas pages board (get_or fewer k absent) (theirs k absent low) pager is)
+
   -- the workers are done and taken apart
   pub ends_work : (most : Option ℕ) (workers : List (Worker R B C)) (slot : PackSlot B C) (after fewer : List (Worker R B C)) (one : PackSlot B C) (rows to : Rows) (old mid new : Desk) (has_failed : Bool)
       → AreDone gate rings readings told board (lines_for board most) workers slot after → AllZip HasLine (lines_for board most) workers → PackerIsReady readings told board slot
       → after ≡ fewer ++ Packer one ∷ []
       → TakesBell (rings one.bell) old mid → PutsDoors (numbers_of fewer) (gates_of gate fewer) mid new → has_failed ≡ any (map (λ tally. tally.door_failed) (tallies_of fewer))
       → to ≡ with_passes after rows → length rows ≡ length (lines_for board most) + 1
-      → HaveOwn (length rows) (workers ++ Packer slot ∷ []) → HaveOwn (length rows) after
+      → HaveOwn (length rows) (workers ++ Packer slot ∷ []) → HaveOwn (length rows) after → HasPaged board.nodes (pagers_of workers) (pagers_of fewer)
       → WorkToTheEnd told board (lines_for board most) (gates_of gate workers) (rings slot.bell) (with_passes (workers ++ Packer slot ∷ []) rows) to old new has_failed
-  ends_work most workers slot after fewer one rows to old mid new has_failed done each ready parts bell doors failed all count own own_after =
+  ends_work most workers slot after fewer one rows to old mid new has_failed done each ready parts bell doors failed all count own own_after paged =
       let lines : List Line = lines_for board most in
       let same = left_front lines workers slot after fewer one done parts in
       let still = still_lines gate rings readings told board lines workers slot after done each in
@@ -420,8 +458,11 @@ module _ {R B C : Type 0} (gate : R → Gate) (rings : B → Rings) (readings : 
         gates_after = gates_of gate done.front;
         rings_after = rings done.last.bell;
         tallies = tallies_of done.front;
+        pagers = pagers_of workers;
+        pagers_after = pagers_of done.front;
+        paged = subst (λ (l : List (Worker R B C)). HasPaged board.nodes (pagers_of workers) (pagers_of l)) same.0 paged;
         works = subst (λ (l : Rows). WorkAll told board lines (gates_of gate workers) (gates_of gate done.front) (rings slot.bell) (rings done.last.bell)
-            (with_passes (workers ++ Packer slot ∷ []) rows) l (tallies_of done.front)) (sym (all ∙ ap (λ (l : List (Worker R B C)). with_passes l rows) done.is))
+            (with_passes (workers ++ Packer slot ∷ []) rows) l (pagers_of workers) (pagers_of done.front) (tallies_of done.front)) (sym (all ∙ ap (λ (l : List (Worker R B C)). with_passes l rows) done.is))
             (all_worked gate rings readings told board most workers slot after rows done each ready count own
             (subst (λ (l : List (Worker R B C)). HaveOwn (length rows) l) done.is own_after));
         mid = mid;

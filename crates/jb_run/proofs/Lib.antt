@@ -20,6 +20,7 @@ mod Lists
 mod Zips
 mod Numbers
 mod Own
+mod PagerLemmas
 mod Doors
 mod Crew
 mod Starts
@@ -30,3 +31,4 @@ mod NodesRefusing
 mod NodesServing
 mod Naming
 mod Completing
+mod Reaching

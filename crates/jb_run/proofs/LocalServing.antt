@@ -15,6 +15,7 @@ use Rattle.jb_conf.specs.declared.board.Board.{Board}
 use Rattle.jb_host.proofs.Callers.{keeps_more}
 use Rattle.jb_host.specs.Desk.{CountsFailed, Desk}
 use Rattle.jb_host.specs.Wire.{Wire}
+use Rattle.jb_page.specs.Pagers.{PagerView}
 use Rattle.jb_session.specs.Exchanges.{AreOf, node_with}
 use Rattle.jb_session.specs.Served.{Served}
 use Rattle.jb_session.specs.declared.end.SessionEnd.{SessionEnd}
@@ -22,6 +23,7 @@ use Rattle.jb_shared.specs.Areas.{IsOf}
 use Rattle.jb_shared.specs.Passes.{PassView}
 use Rattle.jb_shared.specs.declared.shared.SharedArea.{SharedArea}
 use Rattle.jb_run.specs.Local.{ServesOne}
+use Rattle.jb_run.specs.NodePages.{HasPaged}
 use Rattle.jb_run.proofs.Doors.{no_call}
 use Rattle.jb_run.proofs.Keeping.{keeps_around}
 use Rattle.jb_run.proofs.OverLemmas.{AllKeepStarts, over_areas}
@@ -84,12 +86,12 @@ whole_after {D} shared count node areas from to now whole found same_areas same_
 
 -- a session between the opening and the closing of the areas
 pub serves_one : {D : Type 0} (path : List ℕ) (board : Board) (old read opened served new : Desk) (session : SessionEnd) (is_doubtful : Bool)
-    (shared : SharedAreas D) (to : List PassView) (left : Option (List ℕ)) (console console_after : Wire)
+    (shared : SharedAreas D) (to : List PassView) (pager pager_after : PagerView) (others : List PagerView) (left : Option (List ℕ)) (console console_after : Wire)
     → HasBoard path board old read → OpensAll board.areas 1 read opened shared
     → opened.console ≡ Some console → served ≡ record opened { console = Some console_after }
-    → Served board console (node_with opened.readings (passes_at shared 0)) session console_after (node_with left to) → length to ≡ length board.areas
-    → ClosesAll board.areas (to ∷ []) served new is_doubtful → ServesOne path old new (record { session = session; is_doubtful = is_doubtful })
-serves_one path board old read opened served new session is_doubtful shared to left console console_after has opens out back serves count closes =
+    → Served board console (node_with opened.readings (passes_at shared 0) (Some pager)) session console_after (node_with left to (Some pager_after)) → length to ≡ length board.areas
+    → HasPaged board.nodes (pager ∷ others) (pager_after ∷ others) → ClosesAll board.areas (to ∷ []) served new is_doubtful → ServesOne path old new (record { session = session; is_doubtful = is_doubtful })
+serves_one path board old read opened served new session is_doubtful shared to pager pager_after others left console console_after has opens out back serves count paged closes =
     let gives = has.gives in
     let first = opens.out in
     let last = closes.back in
@@ -103,16 +105,20 @@ serves_one path board old read opened served new session is_doubtful shared to l
       to = to;
       afters = closes.afters;
       over = over_areas path board [] old read opened served new opens.befores opens.openings (from ∷ []) (to ∷ []) is_doubtful has first start (omega arith) refl
-          (keep_one from to (keeps_starts board console console_after (node_with opened.readings from) (node_with left to) session serves))
+          (keep_one from to (keeps_starts board console console_after (node_with opened.readings from (Some pager)) (node_with left to (Some pager_after)) session serves))
           (ap (λ (d : Desk). d.disks) back) (ap (λ (d : Desk). d.calls) back ∙ no_call opened.calls) (omega (arith, ap (λ (d : Desk). d.failed) back)) closes;
       started = opens.whole.passes 0 (omega arith);
       ended = count;
+      pager = pager;
+      pager_after = pager_after;
+      others = others;
+      paged = paged;
       console = console;
       console_was = sym gives.rest.console ∙ sym first.rest.console ∙ out;
       console_after = console_after;
       console_back = last.rest.console ∙ ap (λ (d : Desk). d.console) back;
       left = left;
-      served = subst (λ (r : Option (List ℕ)). Served board console (node_with r from) session console_after (node_with left to)) (first.rest.readings ∙ gives.rest.readings) serves;
+      served = subst (λ (r : Option (List ℕ)). Served board console (node_with r from (Some pager)) session console_after (node_with left to (Some pager_after))) (first.rest.readings ∙ gives.rest.readings) serves;
       counted = subst (λ (n : ℕ). CountsFailed (disk_faults closes.afters) n new.failed) before last.failed;
       rest = keeps_around old opened served new (Some console_after) (keeps_more old read opened gives.rest first.rest) back last.rest;
     }

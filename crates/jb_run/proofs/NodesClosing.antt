@@ -18,6 +18,7 @@ use Rattle.jb_host.specs.Real.{silent_gate}
 use Rattle.jb_host.specs.Rings.{Rings}
 use Rattle.jb_run.proofs.Lists.{one_of}
 use Rattle.jb_run.specs.Lines.{Line, door_faults}
+use Rattle.jb_page.specs.Pagers.{PagerView}
 use Rattle.jb_server.specs.Sessions.{EndsServing, ends_of}
 use Rattle.jb_server.specs.Tallies.{and_failed, counted_all, no_tally, tallied}
 use Rattle.jb_server.specs.declared.tally.Tally.{Tally}
@@ -85,9 +86,9 @@ door_rose true old new tally after none says is ends = ends.0
 door_rose false old new tally after none says is ends = absurd (true_not_false (sym is ∙ ap (λ (t : Tally). t.door_failed) says ∙ none))
 
 -- one of the doors has failed, where one with a door says so
-pub a_door_failed : (readings : Option (List ℕ)) (board : Board) (lines : List Line) (gates gates_after : List Gate) (rings rings_after : Rings) (from to : Rows) (tallies : List Tally)
-    → WorkAll readings board lines gates gates_after rings rings_after from to tallies → any (map (λ tally. tally.door_failed) tallies) ≡ true → 0 < door_faults gates_after
-a_door_failed readings board lines gates gates_after rings rings_after from to tallies works failed =
+pub a_door_failed : (readings : Option (List ℕ)) (board : Board) (lines : List Line) (gates gates_after : List Gate) (rings rings_after : Rings) (from to : Rows) (pagers pagers_after : List PagerView) (tallies : List Tally)
+    → WorkAll readings board lines gates gates_after rings rings_after from to pagers pagers_after tallies → any (map (λ tally. tally.door_failed) tallies) ≡ true → 0 < door_faults gates_after
+a_door_failed readings board lines gates gates_after rings rings_after from to pagers pagers_after tallies works failed =
     let absent : Gate = silent_gate 0 false None in
     let bit : Tally → Bool = λ tally. tally.door_failed in
     let one = one_is_set (map bit tallies) failed in

@@ -53,7 +53,7 @@ serves_all door_for bell_over path most board old read opened new befores openin
       afters = closes.afters;
       over = over_areas path board (lines ++ last ∷ []) old read opened runs.worked new befores openings from runs.to
           end.is_doubtful has out opens (omega (arith, works.started)) many
-          (λ n within. work_keeps opened.readings board most runs.gates work.gates_after runs.rings work.rings_after from runs.to work.tallies works n within)
+          (λ n within. work_keeps opened.readings board most runs.gates work.gates_after runs.rings work.rings_after from runs.to work.pagers work.pagers_after work.tallies works n within)
           (work.doors.disks ∙ work.bell.disks ∙ bell.disks ∙ doors.disks)
           (work.doors.calls ∙ work.bell.calls ∙ bell.calls
           ∙ ap (and_call last) doors.calls ∙ calls_then lines (lines ++ last ∷ []) last opened.calls refl)
@@ -74,11 +74,14 @@ serves_all door_for bell_over path most board old read opened new befores openin
           let stood : runs.lined.bell ≡ Some was = doors.rest.bell ∙ out.rest.bell ∙ gives.rest.bell ∙ told in
           let gone : runs.rung.bell ≡ Some bell_out = bell.out ∙ ap (option_map (λ (_ : Belfry). bell_out)) stood in
           back.rest.bell ∙ work.doors.rest.bell ∙ work.bell.back bell_out gone refl;
+      pagers = work.pagers;
+      pagers_after = work.pagers_after;
+      paged = work.paged;
       tallies = work.tallies;
-      works = subst (λ (r : Option (List ℕ)). WorkAll r board (lines_for board most) runs.gates work.gates_after runs.rings work.rings_after from runs.to work.tallies) same_readings works;
+      works = subst (λ (r : Option (List ℕ)). WorkAll r board (lines_for board most) runs.gates work.gates_after runs.rings work.rings_after from runs.to work.pagers work.pagers_after work.tallies) same_readings works;
       failed = work.failed;
       door = λ failed. counted.rose
-          (omega (arith, a_door_failed opened.readings board (lines_for board most) runs.gates work.gates_after runs.rings work.rings_after from runs.to work.tallies works (sym work.failed ∙ failed)));
+          (omega (arith, a_door_failed opened.readings board (lines_for board most) runs.gates work.gates_after runs.rings work.rings_after from runs.to work.pagers work.pagers_after work.tallies works (sym work.failed ∙ failed)));
       counted = counted;
       rest = record {
         settings = back.rest.settings ∙ work.doors.rest.settings ∙ work.bell.rest.settings ∙ bell.rest.settings ∙ doors.rest.settings ∙ out.rest.settings ∙ gives.rest.settings;

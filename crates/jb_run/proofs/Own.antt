@@ -15,7 +15,7 @@ use Rattle.jb_server.specs.declared.worker.Worker.TheVariants.{News, Node, Packe
 use Rattle.jb_shared.specs.Passes.{PassView}
 use Rattle.jb_run.specs.Lines.{Line, lines_for, nodes_of}
 use Rattle.jb_run.specs.Rows.{lists_of}
-use Rattle.jb_run.specs.Workers.{HasDoor, HasLine, HaveOwn, Rows, gate_of, number_of, numbers_of, tally_of, with_passes, worker_passes}
+use Rattle.jb_run.specs.Workers.{HasDoor, HasLine, HaveOwn, Rows, gate_of, number_of, numbers_of, tally_of, with_passes, worker_pager, worker_passes}
 use Rattle.jb_run.proofs.EachLemmas.{all_most}
 use Rattle.jb_run.proofs.Lists.{one_of}
 use Rattle.jb_run.proofs.Numbers.{length-lines_for, number_apart, number_at, number_other, number_within}
@@ -118,12 +118,13 @@ module _ {R B C : Type 0} where
   pub record HasSlot (worker : Worker R B C) (slot : NodeSlot R C) : Type 0 where
     pub number : slot.node ≡ number_of worker
     pub passes : slot.passes.items ≡ worker_passes worker
+    pub pager : slot.pager ≡ worker_pager worker
     pub tally : slot.tally ≡ tally_of worker
     pub door : (gate : R → Gate) → gate slot.door ≡ gate_of gate worker
 
   pub has_slot : (worker : Worker R B C) (slot : NodeSlot R C) → (worker ≡ Node slot) ⊎ (worker ≡ News slot) → HasSlot worker slot
-  has_slot worker slot (inl is) = subst (λ (w : Worker R B C). HasSlot w slot) (sym is) (record { number = refl; passes = refl; tally = refl; door = λ gate. refl })
-  has_slot worker slot (inr is) = subst (λ (w : Worker R B C). HasSlot w slot) (sym is) (record { number = refl; passes = refl; tally = refl; door = λ gate. refl })
+  has_slot worker slot (inl is) = subst (λ (w : Worker R B C). HasSlot w slot) (sym is) (record { number = refl; passes = refl; pager = refl; tally = refl; door = λ gate. refl })
+  has_slot worker slot (inr is) = subst (λ (w : Worker R B C). HasSlot w slot) (sym is) (record { number = refl; passes = refl; pager = refl; tally = refl; door = λ gate. refl })
 
   -- who serves a line is on its passes, and has a door
   pub of_line : (line : Line) (worker : Worker R B C) → HasLine line worker → number_of worker ≡ line.node

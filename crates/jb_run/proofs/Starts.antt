@@ -7,6 +7,7 @@ use Rattle.jb_conf.specs.declared.board.Board.{Board}
 use Rattle.jb_host.specs.Gate.{Gate}
 use Rattle.jb_host.specs.Real.{silent_gate}
 use Rattle.jb_host.specs.Rings.{Rings}
+use Rattle.jb_page.specs.Pagers.{PagerView}
 use Rattle.jb_run.proofs.Lists.{one_of}
 use Rattle.jb_run.proofs.Numbers.{line_with}
 use Rattle.jb_run.proofs.Passing.{KeepsStart, and_then, called, is_same, served_keeps}
@@ -18,6 +19,7 @@ use Rattle.jb_server.specs.declared.service.Service.{Service}
 use Rattle.jb_server.specs.declared.tally.Tally.{Tally}
 use Rattle.jb_session.specs.Exchanges.{AsksPass, NodeState, node_with}
 use Rattle.jb_shared.specs.Passes.{Known, PassView}
+use Rattle.jb_run.specs.NodePages.{pager_of}
 use Rattle.jb_run.specs.Workers.{Rows, packer}
 use Rattle.jb_run.specs.Lines.{Line, lines_for}
 use Rattle.jb_run.specs.Working.{WorkAll, row_of}
@@ -70,17 +72,17 @@ rings_keep user (rung ∷ rungs) from to run =
     then_all from.passes run.0.passes to.passes (ring_keeps user rung.number rung.came from run.0 run.1) (rings_keep user rungs run.0 to run.2)
 
 -- through all work
-pub work_keeps : (readings : Option (List ℕ)) (board : Board) (most : Option ℕ) (gates gates_after : List Gate) (rings rings_after : Rings) (from to : Rows) (tallies : List Tally)
-    → WorkAll readings board (lines_for board most) gates gates_after rings rings_after from to tallies → (n : ℕ) → n < length from
+pub work_keeps : (readings : Option (List ℕ)) (board : Board) (most : Option ℕ) (gates gates_after : List Gate) (rings rings_after : Rings) (from to : Rows) (pagers pagers_after : List PagerView) (tallies : List Tally)
+    → WorkAll readings board (lines_for board most) gates gates_after rings rings_after from to pagers pagers_after tallies → (n : ℕ) → n < length from
     → KeepStarts (slice_index_or from n []) (slice_index_or to n [])
-work_keeps readings board most gates gates_after rings rings_after from to tallies works n within = by (n == board.nodes) refl
+work_keeps readings board most gates gates_after rings rings_after from to pagers pagers_after tallies works n within = by (n == board.nodes) refl
   where
     by : (b : Bool) → (n == board.nodes) ≡ b → KeepStarts (slice_index_or from n []) (slice_index_or to n [])
     by true is =
         let here : n ≡ board.nodes = grind (arith, nat_tests) in
         let P : ℕ → Type 0 = λ m. KeepStarts (slice_index_or from m []) (slice_index_or to m []) in
         let packed = works.packed in
-        subst P (sym here) (rings_keep packer packed.rungs (node_with readings (slice_index_or from board.nodes [])) (node_with works.left (slice_index_or to board.nodes []))
+        subst P (sym here) (rings_keep packer packed.rungs (node_with readings (slice_index_or from board.nodes []) None) (node_with works.left (slice_index_or to board.nodes []) None)
         packed.answers.run)
     by false is =
         let other : n ≢ board.nodes = grind (arith, nat_tests) in
@@ -91,4 +93,5 @@ work_keeps readings board most gates gates_after rings rings_after from to talli
         let served = works.served one.0 absent (silent_gate 0 false None) (silent_gate 0 false None) no_tally one.1 in
         let place : line.node - 1 ≡ n = omega (arith, one.2 absent) in
         subst (λ (m : ℕ). KeepStarts (slice_index_or from m []) (slice_index_or to m [])) place
-        (sessions_keep line.service board served.1.sessions (node_with readings (row_of from line)) (node_with served.0 (row_of to line)) served.1.serves.run)
+        (sessions_keep line.service board served.1.sessions (node_with readings (row_of from line) (pager_of pagers line))
+        (node_with served.0 (row_of to line) (pager_of pagers_after line)) served.1.serves.run)

@@ -5,6 +5,7 @@ pub mod AreasErrors
 pub mod All
 pub mod LocalEnding
 pub mod Lines
+pub mod NodePages
 pub mod Begins
 pub mod NodesEnding
 pub mod Workers
@@ -14,3 +15,4 @@ pub mod Local
 pub mod Telling
 pub mod Nodes
 pub mod Laws
+pub mod Reach

@@ -7,12 +7,14 @@ use Rattle.jb_disk.specs.Device.{Device}
 use Rattle.jb_host.specs.Desk.{CountsFailed, Desk, KeepsRest, asked_bell, has_bell}
 use Rattle.jb_host.specs.Gate.{Gate}
 use Rattle.jb_host.specs.Rings.{Rings}
+use Rattle.jb_page.specs.Pagers.{PagerView}
 use Rattle.jb_server.specs.declared.tally.Tally.{Tally}
 use Rattle.jb_run.specs.All.{any}
 use Rattle.jb_run.specs.Begins.{BeginsNone, RefusesLines}
 use Rattle.jb_run.specs.Desks.{disk_faults}
 use Rattle.jb_run.specs.Lines.{asked_doors, door_faults, lines_for, nodes_of, with_doors}
 use Rattle.jb_run.specs.Over.{OverAreas}
+use Rattle.jb_run.specs.NodePages.{HasPaged}
 use Rattle.jb_run.specs.Workers.{Rows}
 use Rattle.jb_run.specs.Working.{WorkAll}
 use Rattle.jb_run.specs.declared.error.RunError.{RunError}
@@ -38,9 +40,13 @@ module _ (door_for : Option ℕ → Gate → Type 0) (bell_over : ℕ → ℕ �
     pub rings_after : Rings
     pub bell_was : ForSome old.bell (λ bell. bell ≡ has_bell rings)
     pub bell : ForSome old.bell (λ _. new.bell ≡ Some (has_bell rings_after))
+    -- each node had a pager, and every page that was sent was taken or is unread
+    pub pagers : List PagerView
+    pub pagers_after : List PagerView
+    pub paged : HasPaged board.nodes pagers pagers_after
     -- all work at once, each with a clock of the host
     pub tallies : List Tally
-    pub works : WorkAll old.readings board (lines_for board most) gates gates_after rings rings_after from to tallies
+    pub works : WorkAll old.readings board (lines_for board most) gates gates_after rings rings_after from to pagers pagers_after tallies
     -- a door has failed just where the count of its line says that, and so the host
     pub failed : end.door_failed ≡ any (map (λ tally. tally.door_failed) tallies)
     pub door : end.door_failed ≡ true → Rose old.failed new.failed

@@ -1,6 +1,7 @@
 -- The workers of a run: made ready as their doors are handed out, and taken apart when they are done.
-use Rattle.std.specs.Prelude.{◌≡◌, ◌≢◌, ℕ, ◌+◌, ◌-◌, ◌<◌, ◌≤◌, All, AllPairs, Bool, false, List, [], ◌∷◌, ◌++◌, codes, length, map, set, Option, None}
-use Rattle.std.specs.List.{AllZip}
+use Rattle.std.specs.Prelude.{◌≡◌, ◌≢◌, ℕ, ◌+◌, ◌-◌, ◌<◌, ◌≤◌, All, AllPairs, Bool, false, List, [], ◌∷◌, ◌++◌, codes, length, map, option_to_list, reverse, set, Option, Some, None}
+use Rattle.std.specs.List.{AllZip, flat_map}
+use Rattle.std.specs.Option.{option_map}
 use Rattle.jb_base.specs.declared.user.User.{User}
 use Rattle.jb_conf.specs.declared.board.Board.{Board}
 use Rattle.jb_host.specs.Desk.{Desk, GivesBell, GivesDoor, TakesBell, TakesDoor}
@@ -8,6 +9,7 @@ use Rattle.jb_host.specs.Gate.{Gate}
 use Rattle.jb_host.specs.Real.{silent_gate}
 use Rattle.jb_host.specs.Rings.{Rings}
 use Rattle.jb_host.specs.declared.host.HostError.{HostError}
+use Rattle.jb_page.specs.Pagers.{PagerView}
 use Rattle.jb_server.specs.Tallies.{no_tally}
 use Rattle.jb_server.specs.declared.tally.Tally.{Tally}
 use Rattle.jb_server.specs.declared.service.Service.TheVariants as service
@@ -26,6 +28,10 @@ packer = record { name = codes "Packer"; id = 0; level = 255 }
 abbrev pub Rows : Type 0
 Rows = List (List PassView)
 
+-- the number of a pager, where there is one
+abbrev pub pager_number : Option PagerView → Option ℕ
+pager_number pager = option_map (λ one. one.number) pager
+
 module _ {R B C : Type 0} where
   -- its passes
   abbrev pub worker_passes : Worker R B C → List PassView
@@ -43,6 +49,16 @@ module _ {R B C : Type 0} where
   abbrev pub numbers_of : List (Worker R B C) → List ℕ
   numbers_of workers = map number_of workers
 
+  -- its pager, where it has one
+  abbrev pub worker_pager : Worker R B C → Option PagerView
+  worker_pager (Node slot) = slot.pager
+  worker_pager (Packer slot) = None
+  worker_pager (News slot) = slot.pager
+
+  -- the pagers of theirs, in order
+  abbrev pub pagers_of : List (Worker R B C) → List PagerView
+  pagers_of workers = flat_map (λ worker. option_to_list (worker_pager worker)) workers
+
   -- what it has counted; a packer counts no callers
   abbrev pub tally_of : Worker R B C → Tally
   tally_of (Node slot) = slot.tally
@@ -58,6 +74,10 @@ module _ {R B C : Type 0} where
   with_passes [] rows = rows
   with_passes (worker ∷ workers) rows = set (with_passes workers rows) (number_of worker - 1) (worker_passes worker)
 
+  -- these pagers, and those of these workers behind them, the last worker's first
+  abbrev pub with_pagers : List (Worker R B C) → List PagerView → List PagerView
+  with_pagers workers pagers = pagers ++ reverse (pagers_of workers)
+
   -- the passes of each are its own, among so many
   pub record HaveOwn (count : ℕ) (workers : List (Worker R B C)) : Type 0 where
     pub within : All (λ worker. (0 < number_of worker) × (number_of worker ≤ count)) workers
@@ -68,11 +88,11 @@ module _ {R B C : Type 0} where
   HasDoor (Packer slot) = ⊥
   HasDoor _ = Unit {0}
 
-  -- it serves the callers of the line
+  -- it serves the callers of the line, those of a node with the pager of its number
   abbrev pub HasLine : Line → Worker R B C → Type 0
-  HasLine line (Node slot) = (line.service ≡ service.Menus) × (slot.node ≡ line.node)
+  HasLine line (Node slot) = (line.service ≡ service.Menus) × (slot.node ≡ line.node) × (pager_number slot.pager ≡ Some line.node)
   HasLine line (Packer slot) = ⊥
-  HasLine line (News slot) = (line.service ≡ service.News) × (slot.node ≡ line.node)
+  HasLine line (News slot) = (line.service ≡ service.News) × (slot.node ≡ line.node) × (pager_number slot.pager ≡ None)
 
 -- of doors that show themselves so
 module _ {R B C : Type 0} (gate : R → Gate) where

@@ -1,5 +1,5 @@
 -- What the workers of a run do, on areas that are open.
-use Rattle.std.specs.Prelude.{◌≡◌, ℕ, ◌+◌, ◌-◌, ◌<◌, All, Bool, List, [], length, map, slice_index_or, Option}
+use Rattle.std.specs.Prelude.{◌≡◌, ℕ, ◌+◌, ◌-◌, ◌<◌, All, Bool, List, [], length, map, slice_index_or, Option, None}
 use Rattle.jb_run.specs.All.{Abandons, ClosesAll, OpenAs, any}
 use Rattle.jb_conf.specs.declared.board.Board.{Board}
 use Rattle.jb_disk.specs.Device.{Device}
@@ -7,6 +7,7 @@ use Rattle.jb_host.specs.Desk.{Desk, GivesBell, TakesBell}
 use Rattle.jb_host.specs.Gate.{Gate}
 use Rattle.jb_host.specs.Rings.{Rings}
 use Rattle.jb_host.specs.declared.host.HostError.{HostError}
+use Rattle.jb_page.specs.Pagers.{PagerView}
 use Rattle.jb_server.specs.Rounds.{PackerWorks}
 use Rattle.jb_server.specs.Sessions.{ServedAs, Works}
 use Rattle.jb_server.specs.Tallies.{no_tally}
@@ -16,6 +17,7 @@ use Rattle.jb_shared.specs.Passes.{PassView}
 use Rattle.jb_shared.specs.declared.opening.Opening.{Opening}
 use Rattle.jb_shared.specs.declared.shared.SharedArea.{SharedArea}
 use Rattle.jb_run.specs.Lines.{HandsDoors, Line, PutsDoors, StopsLines, lines_for, nodes_of}
+use Rattle.jb_run.specs.NodePages.{HasPaged, pager_of}
 use Rattle.jb_run.specs.Workers.{Rows, packer}
 use Rattle.jb_run.specs.declared.nodes_end.NodesEnd.{NodesEnd}
 
@@ -27,9 +29,9 @@ AreAllOf areas rows = (n : ℕ) → n < length rows → AreOf areas (slice_index
 abbrev pub row_of : Rows → Line → List PassView
 row_of rows line = slice_index_or rows (line.node - 1) []
 
--- the workers of these lines and the packer have worked, from these passes, doors and this bell to those, each with a clock of its own that
--- began with these readings
-pub record WorkAll (readings : Option (List ℕ)) (board : Board) (lines : List Line) (gates gates_after : List Gate) (rings rings_after : Rings) (from to : Rows) (tallies : List Tally) : Type 0 where
+-- the workers of these lines and the packer have worked, from these passes, pagers, doors and this bell to those, each with a clock of its own
+-- that began with these readings
+pub record WorkAll (readings : Option (List ℕ)) (board : Board) (lines : List Line) (gates gates_after : List Gate) (rings rings_after : Rings) (from to : Rows) (pagers pagers_after : List PagerView) (tallies : List Tally) : Type 0 where
   pub doors : length gates ≡ length lines
   pub doors_after : length gates_after ≡ length lines
   pub counts : length tallies ≡ length lines
@@ -38,20 +40,23 @@ pub record WorkAll (readings : Option (List ℕ)) (board : Board) (lines : List 
   -- on each line one caller after another was served as it says, on the links of its door, until that was shut or failed
   pub served : (k : ℕ) (line : Line) (gate gate_after : Gate) (tally : Tally) → k < length lines
       → (left : Option (List ℕ)) × Works (ServedAs (slice_index_or lines k line).service board)
-      (slice_index_or gates k gate) (node_with readings (row_of from (slice_index_or lines k line))) no_tally
-      (slice_index_or gates_after k gate_after) (node_with left (row_of to (slice_index_or lines k line))) (slice_index_or tallies k tally)
+      (slice_index_or gates k gate) (node_with readings (row_of from (slice_index_or lines k line)) (pager_of pagers (slice_index_or lines k line))) no_tally
+      (slice_index_or gates_after k gate_after) (node_with left (row_of to (slice_index_or lines k line)) (pager_of pagers_after (slice_index_or lines k line))) (slice_index_or tallies k tally)
   -- the packer, whose passes come behind those of the nodes, has packed at each ring, until its bell was shut
   pub packs : ℕ
   pub left : Option (List ℕ)
-  pub packed : PackerWorks packer rings (node_with readings (slice_index_or from board.nodes [])) 0 rings_after
-      (node_with left (slice_index_or to board.nodes [])) packs
+  pub packed : PackerWorks packer rings (node_with readings (slice_index_or from board.nodes []) None) 0 rings_after
+      (node_with left (slice_index_or to board.nodes []) None) packs
 
--- they have worked, and their doors and the bell are put back
+-- they have worked, each node with a pager of its own; their doors and the bell are put back, and the pages closed
 pub record WorkToTheEnd (readings : Option (List ℕ)) (board : Board) (lines : List Line) (gates : List Gate) (rings : Rings) (from to : Rows) (old new : Desk) (door_failed : Bool) : Type 0 where
   pub gates_after : List Gate
   pub rings_after : Rings
   pub tallies : List Tally
-  pub works : WorkAll readings board lines gates gates_after rings rings_after from to tallies
+  pub pagers : List PagerView
+  pub pagers_after : List PagerView
+  pub paged : HasPaged board.nodes pagers pagers_after
+  pub works : WorkAll readings board lines gates gates_after rings rings_after from to pagers pagers_after tallies
   pub mid : Desk
   pub bell : TakesBell rings_after old mid
   pub doors : PutsDoors (nodes_of lines) gates_after mid new

@@ -3,9 +3,10 @@
 //!
 //! The layer above may rely on this: either nobody is served, the first refusal is told ([`RunError`]) and all that was handed out is
 //! back; or the settings are read, each area is opened over the disk that the host has for it and shared among the workers, in order,
-//! the caller, or the callers of each door and the packer, have been served on areas whose histories have all of it, and everything is
-//! closed and put back. An area goes on from just what its files open to, and its disk comes back with what its history has made of
-//! them; where one is refused, those before it are closed.
+//! the caller, or the callers of each door and the packer, have been served on areas whose histories have all of it, and everything
+//! is closed and put back; of the pages that nodes sent each was taken, or is unread when they are closed. An area goes on from just
+//! what its files open to, and its disk comes back with what its history has made of them; where one is refused, those before it are
+//! closed.
 #![tactic(auto)]
 
 mod areas_error;
@@ -18,6 +19,7 @@ mod laws;
 mod lines;
 mod local_end;
 mod meanings;
+mod node_pages;
 mod nodes;
 mod nodes_end;
 mod opening;
@@ -28,7 +30,7 @@ mod telling;
 
 pub use console::local;
 pub use error::RunError;
-pub use laws::open_boards_are_served;
+pub use laws::{each_page_reaches_its_node, open_boards_are_served};
 pub use local_end::LocalEnd;
 pub use meanings::meaning;
 pub use nodes::serve_nodes;

@@ -1,14 +1,18 @@
 //! The workers of a run: room for them, and each line as the host hands its door out.
-ghost use Rattle.std.specs.Prelude.{◌≡◌, ◌+◌, ◌-◌, ◌<◌, ◌≤◌, ℕ, Option, [], IfErr, IfOk, OnOk, length, set, slice_index_or, vec_capacity};
+ghost use Rattle.std.specs.Prelude.{◌≡◌, ◌+◌, ◌-◌, ◌<◌, ◌≤◌, ℕ, Option, None, [], IfErr, IfOk, OnOk, length, reverse, set, slice_index_or, vec_capacity};
 ghost use Rattle.jb_run.specs.Rows.{lists_of};
 ghost use Rattle.jb_limits.specs.declared.limits.TheConstants.{MOST_AREAS, MOST_NODES};
 ghost use Rattle.jb_host.specs.Desk.{Desk, RefusesCall, asked_door};
+ghost use Rattle.jb_page.specs.Pagers.{AreNewPagers};
 ghost use Rattle.jb_run.specs.Lines.{first_lines, lines_for};
-ghost use Rattle.jb_run.specs.Workers.{HasWorkers, OpensLine, OpensLines, StopsAt, packer, with_passes};
+ghost use Rattle.jb_run.specs.NodePages.{ArePagersOf};
+ghost use Rattle.jb_run.specs.Workers.{HasWorkers, OpensLine, OpensLines, StopsAt, packer, pagers_of, with_pagers, with_passes};
 
+use crate::node_pages::{NodePages, node_pages_for};
 use jb_base::{Name, OutOfMemory, User};
 use jb_conf::Board;
 use jb_host::{Host, HostError};
+use jb_page::Pager;
 use jb_server::{NodeSlot, Tally, Worker};
 use jb_shared::Pass;
 use std::alloc::Global;
@@ -19,11 +23,12 @@ const PACKER: &[u8] = b"Packer";
 /// The level of that user.
 const PACKER_LEVEL: u8 = 255;
 
-/// What has to be there before the areas are opened: room for the workers, and the user as whom areas are packed.
+/// What has to be there before the areas are opened: room for the workers, the user as whom areas are packed, and the pages.
 #[derive(Drop)]
 pub(crate) struct Room<R, B, C> {
     pub workers: Vec<Worker<R, B, C>>,
     pub packer: User,
+    pub node_pages: NodePages,
 }
 
 /// How many workers a board has, each with a pass of each area: its nodes, the packer, and where it has a port for news one more.
@@ -37,15 +42,19 @@ pub(crate) fn workers_of(board: &Board) -> u32
     }
 }
 
-/// Room for so many workers.
+/// Room for so many workers, and for the pages between so many nodes.
 pub(crate) fn room_for<R: Drop, B: Drop, C: Drop>(
     alloc: Global,
     workers: u32,
+    nodes: u32,
 ) -> Result<Room<R, B, C>, OutOfMemory>
-    requires { workers ≤ MOST_NODES + 1 }
+    requires workers { workers ≤ MOST_NODES + 1 }
+    requires nodes { (0 < nodes) × (nodes ≤ MOST_NODES) }
     ensures none { IfOk result (λ room. room.workers.items ≡ []) }
     ensures room { IfOk result (λ room. workers ≤ vec_capacity room.workers) }
     ensures packer { IfOk result (λ room. room.packer ≡ packer) }
+    ensures pagers { IfOk result (λ room. AreNewPagers nodes (reverse room.node_pages.pagers.items)) }
+    ensures of { IfOk result (λ room. ArePagersOf room.node_pages.pages (reverse room.node_pages.pagers.items)) }
 {
     let workers = Vec::with_capacity(alloc, workers as usize)?;
     let name = Name::copy(alloc, PACKER)?;
@@ -54,7 +63,12 @@ pub(crate) fn room_for<R: Drop, B: Drop, C: Drop>(
         id: 0,
         level: PACKER_LEVEL,
     };
-    Ok(Room { workers, packer })
+    let node_pages = node_pages_for(alloc, nodes)?;
+    Ok(Room {
+        workers,
+        packer,
+        node_pages,
+    })
 }
 
 /// Takes the passes at this place, where none are left.
@@ -66,7 +80,7 @@ pub(crate) fn take_passes(alloc: Global, nodes: &mut Vec<Vec<Pass>>, place: usiz
     mem::replace(&mut nodes[place], Vec::new(alloc))
 }
 
-/// Opens a line: the door for these passes is handed out, and they are taken.
+/// Opens a line: the door for these passes is handed out, and they are taken. It has no pager yet.
 fn open_line<H: Host>(
     alloc: Global,
     host: &mut H,
@@ -81,6 +95,7 @@ fn open_line<H: Host>(
         OpensLine H.Door.gate H.Clock.readings H.door_for calls node port slot (H.desk host.old) (H.desk host.new)) }
     ensures taken { IfOk result (λ slot. slot.passes.items ≡ slice_index_or (lists_of nodes.old.items) (node - 1) []) }
     ensures left { OnOk result (lists_of nodes.new.items ≡ set (lists_of nodes.old.items) (node - 1) []) }
+    ensures pager { IfOk result (λ slot. slot.pager ≡ None) }
     ensures err { IfErr result (λ error. (nodes.new ≡ nodes.old)
         × RefusesCall (asked_door node port calls) error (H.desk host.old) (H.desk host.new)) }
     ensures lists { length nodes.new.items ≡ length nodes.old.items }
@@ -93,35 +108,42 @@ fn open_line<H: Host>(
         door,
         clock,
         passes,
+        pager: None,
         tally: Tally::new(),
     })
 }
 
-/// Opens the lines of all nodes, in order.
+/// Opens the lines of all nodes, in order. Each takes the last of the pagers, which is its own.
 fn open_nodes<H: Host>(
     alloc: Global,
     host: &mut H,
     board: &Board,
     calls: Option<u32>,
     nodes: &mut Vec<Vec<Pass>>,
+    pagers: &mut Vec<Pager>,
     workers: &mut Vec<Worker<H::Door, H::Bell, H::Clock>>,
 ) -> Result<(), HostError>
     requires none { workers.old.items ≡ [] }
     requires lists { length (lines_for board.now calls) < length nodes.old.items }
     requires room { length (lines_for board.now calls) < vec_capacity workers.old }
+    requires pagers { AreNewPagers board.now.nodes (reverse pagers.old.items) }
     ensures ok { OnOk result (HasWorkers H.Door.gate H.Clock.readings H.door_for calls
         (first_lines board.now calls board.now.nodes) workers.new.items (H.desk host.old) (H.desk host.new)) }
     ensures err { IfErr result (λ error. StopsAt H.Door.gate board.now calls workers.new.items error
         (H.desk host.old) (H.desk host.new)) }
 
-    // The workers that were made have their passes.
+    // The workers that were made have their passes, and those of nodes the pagers.
     ensures rows { with_passes workers.new.items (lists_of nodes.new.items) ≡ lists_of nodes.old.items }
+    ensures pagers { with_pagers workers.new.items pagers.new.items ≡ pagers.old.items }
+    ensures given { OnOk result (pagers.new.items ≡ []) }
+    ensures pager_room { vec_capacity pagers.new ≡ vec_capacity pagers.old }
     ensures lists { length nodes.new.items ≡ length nodes.old.items }
     ensures room { vec_capacity workers.new ≡ vec_capacity workers.old }
 {
     while workers.len() < board.nodes as usize {
         let node = workers.len() as u32 + 1;
-        let slot = open_line(alloc, host, node, board.port, calls, nodes)?;
+        let mut slot = open_line(alloc, host, node, board.port, calls, nodes)?;
+        slot.pager = pagers.pop();
         workers.push_reserved(Worker::Node(slot));
     }
     Ok(())
@@ -149,6 +171,7 @@ fn open_news<H: Host>(
     // The workers that were made have their passes.
     ensures rows { with_passes workers.new.items (lists_of nodes.new.items)
         ≡ with_passes workers.old.items (lists_of nodes.old.items) }
+    ensures pagers { pagers_of workers.new.items ≡ pagers_of workers.old.items }
     ensures lists { length nodes.new.items ≡ length nodes.old.items }
     ensures room { vec_capacity workers.new ≡ vec_capacity workers.old }
 {
@@ -167,22 +190,27 @@ pub(crate) fn open_lines<H: Host>(
     board: &Board,
     calls: Option<u32>,
     nodes: &mut Vec<Vec<Pass>>,
+    pagers: &mut Vec<Pager>,
     workers: &mut Vec<Worker<H::Door, H::Bell, H::Clock>>,
 ) -> Result<H::Bell, HostError>
     requires none { workers.old.items ≡ [] }
     requires lists { length (lines_for board.now calls) < length nodes.old.items }
     requires room { length (lines_for board.now calls) < vec_capacity workers.old }
+    requires pagers { AreNewPagers board.now.nodes (reverse pagers.old.items) }
     ensures ok { IfOk result (λ bell. OpensLines H.Door.gate H.Clock.readings H.door_for calls board.now
         H.bell_over (H.Bell.rings bell) workers.new.items (H.desk host.old) (H.desk host.new)) }
     ensures err { IfErr result (λ error. StopsAt H.Door.gate board.now calls workers.new.items error
         (H.desk host.old) (H.desk host.new)) }
 
-    // The workers that were made have their passes.
+    // The workers that were made have their passes, and those of nodes the pagers.
     ensures rows { with_passes workers.new.items (lists_of nodes.new.items) ≡ lists_of nodes.old.items }
+    ensures pagers { with_pagers workers.new.items pagers.new.items ≡ pagers.old.items }
+    ensures given { OnOk result (pagers.new.items ≡ []) }
+    ensures pager_room { vec_capacity pagers.new ≡ vec_capacity pagers.old }
     ensures lists { length nodes.new.items ≡ length nodes.old.items }
     ensures room { vec_capacity workers.new ≡ vec_capacity workers.old }
 {
-    open_nodes(alloc, host, board, calls, nodes, workers)?;
+    open_nodes(alloc, host, board, calls, nodes, pagers, workers)?;
     open_news(alloc, host, board, calls, nodes, workers)?;
     let areas = board.areas.as_slice().len() as u32;
     host.bell(areas, board.pack_minutes, calls)

@@ -1,3 +1,4 @@
+mod Pagers
 mod RingRuns
 mod SessionRuns
 mod Told

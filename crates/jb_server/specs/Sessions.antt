@@ -1,5 +1,5 @@
 -- The sessions of callers, one after another, on the links of a door.
-use Rattle.std.specs.Prelude.{◌≡◌, ◌+◌, Bool, true, false, List, [], ◌∷◌, ◌++◌, length, map, Some}
+use Rattle.std.specs.Prelude.{◌≡◌, ℕ, ◌+◌, Bool, true, false, List, [], ◌∷◌, ◌++◌, length, map, Some}
 use Rattle.std.specs.Option.{option_map}
 use Rattle.jb_bytes.specs.Fault.{Rose}
 use Rattle.jb_conf.specs.declared.board.Board.{Board}
@@ -35,6 +35,11 @@ ends_of sessions = map (λ session. session.end) sessions
 abbrev pub EndsServing : Bool → Gate → Gate → Type 0
 EndsServing true old new = Rose old.faults new.faults × (new.is_shut ≡ old.is_shut)
 EndsServing false old new = (new.is_shut ≡ true) × (new.left ≡ Some 0) × (new.faults ≡ old.faults)
+
+-- to how many nodes a caller who is served so sends pages, from the first on
+abbrev pub reach_of : Service → Board → ℕ
+reach_of Menus board = board.nodes
+reach_of News board = 0
 
 -- a session of a caller who is served so
 abbrev pub ServedAs : Service → Board → Wire → NodeState → SessionEnd → Wire → NodeState → Type 0

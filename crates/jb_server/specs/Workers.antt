@@ -1,13 +1,14 @@
 -- The workers of a server.
-use Rattle.std.specs.Prelude.{◌≡◌, ℕ, ◌≤◌, List, length, Option}
+use Rattle.std.specs.Prelude.{◌≡◌, ℕ, ◌≤◌, List, length, Option, Some, None}
 use Rattle.jb_limits.specs.declared.limits.TheConstants.{MOST_NAME_BYTES}
 use Rattle.jb_conf.specs.declared.board.Board.{Board}
 use Rattle.jb_host.specs.Gate.{Gate}
 use Rattle.jb_host.specs.Rings.{Rings}
+use Rattle.jb_page.specs.Pagers.{HasPager, PagerView, PagesView}
 use Rattle.jb_session.specs.Exchanges.{AreOf, node_with}
 use Rattle.jb_shared.specs.declared.shared.SharedArea.{SharedArea}
 use Rattle.jb_server.specs.Rounds.{PackerWorks}
-use Rattle.jb_server.specs.Sessions.{ServedAs, Works}
+use Rattle.jb_server.specs.Sessions.{ServedAs, Works, reach_of}
 use Rattle.jb_server.specs.declared.service.Service.{Service}
 use Rattle.jb_server.specs.declared.service.Service.TheVariants as service
 use Rattle.jb_server.specs.declared.worker.NodeSlot.{NodeSlot}
@@ -15,20 +16,27 @@ use Rattle.jb_server.specs.declared.worker.PackSlot.{PackSlot}
 use Rattle.jb_server.specs.declared.worker.Worker.{Worker}
 use Rattle.jb_server.specs.declared.worker.Worker.TheVariants.{News, Node, Packer}
 
-module _ {D R B C : Type 0} (areas : List (SharedArea D)) where
-  -- a worker has a pass of each area, in order, and a packer a name that an area takes
+module _ {D R B C : Type 0} (areas : List (SharedArea D)) (pages : PagesView) (board : Board) where
+  -- a worker has a pass of each area, in order, and one that serves callers so a pager of these pages; a packer has a name that an area takes
   abbrev pub IsAtWork : Worker R B C → Type 0
-  IsAtWork (Node slot) = AreOf areas slot.passes.items
-  IsAtWork (News slot) = AreOf areas slot.passes.items
+  IsAtWork (Node slot) = AreOf areas slot.passes.items × HasPager pages (reach_of service.Menus board) slot.pager
+  IsAtWork (News slot) = AreOf areas slot.passes.items × HasPager pages (reach_of service.News board) slot.pager
   IsAtWork (Packer slot) = AreOf areas slot.passes.items × (length slot.user.name ≤ MOST_NAME_BYTES)
+
+-- the pager keeps its number and its queues, and what it did stands at as many; where there was none there is none
+abbrev pub KeepsPager : Option PagerView → Option PagerView → Type 0
+KeepsPager (Some old) (Some new) = (new.number ≡ old.number) × (new.queues ≡ old.queues) × (length new.rows ≡ length old.rows)
+KeepsPager None None = Unit {0}
+KeepsPager _ _ = ⊥
 
 -- of doors and clocks that show themselves so
 module _ {R C : Type 0} (gate : R → Gate) (readings : C → Option (List ℕ)) (board : Board) where
   -- one with a door has served its callers so, until that was shut or failed
   pub record HasServed (service : Service) (old new : NodeSlot R C) : Type 0 where
     pub node : new.node ≡ old.node
-    pub works : Works (ServedAs service board) (gate old.door) (node_with (readings old.clock) old.passes.items) old.tally
-        (gate new.door) (node_with (readings new.clock) new.passes.items) new.tally
+    pub pager : KeepsPager old.pager new.pager
+    pub works : Works (ServedAs service board) (gate old.door) (node_with (readings old.clock) old.passes.items old.pager) old.tally
+        (gate new.door) (node_with (readings new.clock) new.passes.items new.pager) new.tally
 
 -- of bells and clocks that show themselves so
 module _ {B C : Type 0} (rings : B → Rings) (readings : C → Option (List ℕ)) where
@@ -36,8 +44,8 @@ module _ {B C : Type 0} (rings : B → Rings) (readings : C → Option (List ℕ
   pub record PackerHasWorked (old new : PackSlot B C) : Type 0 where
     pub node : new.node ≡ old.node
     pub user : new.user ≡ old.user
-    pub works : PackerWorks old.user (rings old.bell) (node_with (readings old.clock) old.passes.items) old.packs
-        (rings new.bell) (node_with (readings new.clock) new.passes.items) new.packs
+    pub works : PackerWorks old.user (rings old.bell) (node_with (readings old.clock) old.passes.items None) old.packs
+        (rings new.bell) (node_with (readings new.clock) new.passes.items None) new.packs
 
 -- of doors, bells and clocks that show themselves so
 module _ {R B C : Type 0} (gate : R → Gate) (rings : B → Rings) (readings : C → Option (List ℕ)) (board : Board) where

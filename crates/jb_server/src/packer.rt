@@ -1,5 +1,5 @@
 //! The work of a packer.
-ghost use Rattle.std.specs.Prelude.{◌≡◌, ◌≤◌, length};
+ghost use Rattle.std.specs.Prelude.{◌≡◌, ◌≤◌, None, length};
 ghost use Rattle.std.specs.Option.{option_map};
 ghost use Rattle.jb_limits.specs.declared.limits.TheConstants.{MOST_NAME_BYTES};
 ghost use Rattle.jb_host.specs.Readings.{readings_after};
@@ -96,8 +96,8 @@ impl<B: Bell, C: Clock> PackSlot<B, C> {
         requires name { length self.old.user.name ≤ MOST_NAME_BYTES }
         ensures ours { AreOf areas.now self.new.passes.items }
         ensures answers { AnswersRing self.old.user number result
-            (node_with (C.readings self.old.clock) self.old.passes.items)
-            (node_with (C.readings self.new.clock) self.new.passes.items) }
+            (node_with (C.readings self.old.clock) self.old.passes.items None)
+            (node_with (C.readings self.new.clock) self.new.passes.items None) }
 
         // All else stays.
         ensures node { self.new.node ≡ self.old.node }

@@ -9,6 +9,7 @@ use crate::worker::Worker;
 use jb_conf::Board;
 use jb_disk::Disk;
 use jb_host::{Bell, Clock, Door};
+use jb_page::Pages;
 use jb_shared::SharedArea;
 use std::alloc::Global;
 use std::sync::Wait;
@@ -21,17 +22,18 @@ fn work<T: Wait, D: Disk, R: Door, B: Bell, C: Clock>(
     alloc: Global,
     board: &Board,
     areas: &[SharedArea<D>],
+    pages: &Pages,
     worker: &mut Worker<R, B, C>,
 )
     requires areas { length areas.now ≡ length board.now.areas }
-    requires ours { IsAtWork areas.now worker.old }
-    ensures ours { IsAtWork areas.now worker.new }
+    requires ours { IsAtWork areas.now pages.now board.now worker.old }
+    ensures ours { IsAtWork areas.now pages.now board.now worker.new }
     ensures worked { HasWorked R.gate B.rings C.readings board.now worker.old worker.new }
 {
     match worker {
-        Worker::Node(slot) => serve_callers(rt, alloc, board, areas, Service::Menus, slot),
+        Worker::Node(slot) => serve_callers(rt, alloc, board, areas, pages, Service::Menus, slot),
         Worker::Packer(slot) => serve_bell(rt, alloc, areas, slot),
-        Worker::News(slot) => serve_callers(rt, alloc, board, areas, Service::News, slot),
+        Worker::News(slot) => serve_callers(rt, alloc, board, areas, pages, Service::News, slot),
     }
 }
 
@@ -43,12 +45,19 @@ pub fn serve<
     R: Door + Send,
     B: Bell + Send,
     C: Clock + Send,
->(rt: &T, alloc: Global, board: &Board, areas: &[SharedArea<D>], workers: &mut [Worker<R, B, C>])
+>(
+    rt: &T,
+    alloc: Global,
+    board: &Board,
+    areas: &[SharedArea<D>],
+    pages: &Pages,
+    workers: &mut [Worker<R, B, C>],
+)
 where
     R::Link: Send,
     requires areas { length areas.now ≡ length board.now.areas }
-    requires ours { All (IsAtWork areas.now) workers.old }
-    ensures ours { All (IsAtWork areas.now) workers.new }
+    requires ours { All (IsAtWork areas.now pages.now board.now) workers.old }
+    ensures ours { All (IsAtWork areas.now pages.now board.now) workers.new }
     ensures worked { (k : ℕ) (absent : _) → k < length workers.old
         → HasWorked R.gate B.rings C.readings board.now (slice_index_or workers.old k absent)
         (slice_index_or workers.new k absent) }
@@ -61,6 +70,6 @@ where
         rt,
         workers,
         count,
-        &|_, worker| work(rt, alloc, board, areas, worker),
+        &|_, worker| work(rt, alloc, board, areas, pages, worker),
     );
 }

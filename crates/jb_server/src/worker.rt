@@ -2,19 +2,22 @@
 
 use crate::tally::Tally;
 use jb_base::User;
+use jb_page::Pager;
 use jb_shared::Pass;
 
-/// What a node works with: the number of its passes, from 1, its door, a clock, a pass of each area in order, and what it has counted.
+/// What a node works with: the number of its passes, from 1, its door, a clock, a pass of each area in order, its pager, and what it has
+/// counted.
 #[derive(Drop)]
 pub struct NodeSlot<R, C> {
     pub node: u32,
     pub door: R,
     pub clock: C,
     pub passes: Vec<Pass>,
+    pub pager: Option<Pager>,
     pub tally: Tally,
 }
 
-/// What a server of news works with: the same, on passes behind those of the packer.
+/// What a server of news works with: the same, on passes behind those of the packer and without a pager.
 pub type NewsSlot<R, C> = NodeSlot<R, C>;
 
 /// What a packer works with: the number of its passes, its bell, a clock, a pass of each area in order, the user that it is, and how many

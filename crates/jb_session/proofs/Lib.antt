@@ -1,2 +1,3 @@
 pub mod Passing
 mod Standing
+mod Telling

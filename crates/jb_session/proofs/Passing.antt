@@ -16,9 +16,11 @@ use Rattle.jb_shared.specs.declared.error.SharedError.{SharedError}
 use Rattle.jb_shared.specs.declared.refusal.Refusal.{Refusal}
 use Rattle.jb_shared.specs.declared.error.SharedError.TheVariants.{StoreFault, Gap, RunSpent, OutOfMemory}
 use Rattle.jb_speech.specs.declared.request.Act.{Act}
-use Rattle.jb_speech.specs.declared.request.Act.TheVariants.{Ask, Look, Count, Clock}
+use Rattle.jb_speech.specs.declared.request.Act.TheVariants.{Ask, Look, Count}
+use Rattle.jb_speech.specs.declared.request.AreaRequest.{AreaRequest}
 use Rattle.jb_speech.specs.declared.request.Request.{Request}
-use Rattle.jb_session.specs.Exchanges.{Exchange, GivesAnswer, Happens, NodeState, Passed, PassedLast, Wants}
+use Rattle.jb_speech.specs.declared.request.Request.TheVariants.{Area, Clock, Send, Take}
+use Rattle.jb_session.specs.Exchanges.{Answers, Exchange, GivesAnswer, Lacks, Happens, NodeState, Passed, PassedLast, Wants}
 
 -- a call was asked: all stays but what calls leave
 abbrev pub HasCalled : Known → Known → Type 0
@@ -86,16 +88,14 @@ module _ (Keeps : Known → Known → Type 0) (same : (known : Known) → Keeps 
   answered readings user (Look question) old new (given.Fault fault.Barred) g = by_bar old new g
   answered readings user Count old new (given.Count unread) g = by_look old new g.0
   answered readings user Count old new (given.Fault fault.Barred) g = by_bar old new g
-  answered readings user Clock old new (given.Moment moment) g = stays old new g.0
   answered readings user act old new what g = absurd g
 
   wanted : (readings : Option (List ℕ)) (user : User) (act : Act) (old new : Known) → Wants readings user act old new → Keeps old new
   wanted readings user (Ask command) old new w = by_call old new (called old new user w.0 command (Err OutOfMemory) w.2)
   wanted readings user (Look question) old new w = by_look old new w
   wanted readings user Count old new w = absurd w
-  wanted readings user Clock old new w = absurd w
 
-  happened : (user_of : Request → Option User) (request : Request) (happens : User → Known → Known → Type 0) (old new : NodeState)
+  happened : (user_of : AreaRequest → Option User) (request : AreaRequest) (happens : User → Known → Known → Type 0) (old new : NodeState)
       → Happens user_of request happens old new → ((user : User) (before after : Known) → happens user before after → Keeps before after) → OnEach old new
   happened user_of request happens old new h each k pass = by (k == request.area) refl
     where
@@ -110,22 +110,32 @@ module _ (Keeps : Known → Known → Type 0) (same : (known : Known) → Keeps 
           let other : k ≢ request.area = grind (arith, nat_tests) in
           stays _ _ (ap (λ (p : PassView). p.known) (h.others k pass other))
 
-  stay : (old new : NodeState) → new ≡ old → OnEach old new
-  stay old new is k pass = stays _ _ (ap (λ (w : NodeState). (slice_index_or w.passes k pass).known) is)
+  stay : (old new : NodeState) → new.passes ≡ old.passes → OnEach old new
+  stay old new is k pass = stays _ _ (ap (λ (w : List PassView). (slice_index_or w k pass).known) is)
 
-  passed : (user_of : Request → Option User) (exchanges : List Exchange) (old new : NodeState) → Passed user_of old exchanges new → OnEach old new
-  passed user_of [] old new is = stay old new is
+  answered_to : (user_of : AreaRequest → Option User) (request : Request) (what : Given) (old new : NodeState) → Answers user_of request what old new → OnEach old new
+  answered_to user_of (Area request) what old new h =
+      happened user_of request _ old new h (λ user before after gives. answered old.readings user request.act before after what gives)
+  answered_to user_of Clock (given.Moment moment) old new a = stay old new (ap (λ (w : NodeState). w.passes) a.1)
+  answered_to user_of (Send to text) (given.Sent result) old new a = stay old new (ap (λ (w : NodeState). w.passes) a.5)
+  answered_to user_of Take (given.Page taken) old new a = stay old new (ap (λ (w : NodeState). w.passes) a.3)
+  answered_to user_of request what old new a = absurd a
+
+  passed : (user_of : AreaRequest → Option User) (exchanges : List Exchange) (old new : NodeState) → Passed user_of old exchanges new → OnEach old new
+  passed user_of [] old new is = stay old new (ap (λ (w : NodeState). w.passes) is)
   passed user_of (exchange ∷ exchanges) old new p = λ k pass.
-      and_then _ _ _
-      (happened user_of exchange.request _ old p.0 p.1 (λ user before after gives. answered old.readings user exchange.request.act before after exchange.given gives) k pass)
-      (passed user_of exchanges p.0 new p.2 k pass)
+      and_then _ _ _ (answered_to user_of exchange.request exchange.given old p.0 p.1 k pass) (passed user_of exchanges p.0 new p.2 k pass)
 
-  passed_last : (user_of : Request → Option User) (last : Option Request) (old new : NodeState) → PassedLast user_of old last new → OnEach old new
-  passed_last user_of None old new is = stay old new is
-  passed_last user_of (Some request) old new lacks = happened user_of request _ old new lacks (λ user before after wants. wanted old.readings user request.act before after wants)
+  lacked : (user_of : AreaRequest → Option User) (request : Request) (old new : NodeState) → Lacks user_of request old new → OnEach old new
+  lacked user_of (Area request) old new lacks = happened user_of request _ old new lacks (λ user before after wants. wanted old.readings user request.act before after wants)
+  lacked user_of request old new lacks = absurd lacks
+
+  passed_last : (user_of : AreaRequest → Option User) (last : Option Request) (old new : NodeState) → PassedLast user_of old last new → OnEach old new
+  passed_last user_of None old new is = stay old new (ap (λ (w : NodeState). w.passes) is)
+  passed_last user_of (Some request) old new lacks = lacked user_of request old new lacks
 
   -- through all that a session asks
-  pub keeps_through : (user_of : Request → Option User) (exchanges : List Exchange) (last : Option Request) (from mid to : NodeState)
+  pub keeps_through : (user_of : AreaRequest → Option User) (exchanges : List Exchange) (last : Option Request) (from mid to : NodeState)
       → Passed user_of from exchanges mid → PassedLast user_of mid last to → OnEach from to
   keeps_through user_of exchanges last from mid to through at_last k pass =
       and_then _ _ _ (passed user_of exchanges from mid through k pass) (passed_last user_of last mid to at_last k pass)

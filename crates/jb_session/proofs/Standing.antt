@@ -14,6 +14,7 @@ use Rattle.jb_menu.specs.declared.given.Given.{Given}
 use Rattle.jb_speech.proofs.Growing.{front_refl}
 use Rattle.jb_speech.specs.Laws.{EachTalks, IsFront, Talk}
 use Rattle.jb_speech.specs.Posture.{Posture}
+use Rattle.jb_speech.specs.declared.request.AreaRequest.{AreaRequest}
 use Rattle.jb_speech.specs.declared.request.Request.{Request}
 use Rattle.jb_speech.specs.declared.end.TalkEnd.{TalkEnd}
 use Rattle.jb_speech.specs.declared.end.TalkEnd.TheVariants as talk
@@ -87,7 +88,7 @@ lacks_none LinkFault = refl
 lacks_none Spent = refl
 lacks_none OutOfMemory = tt
 
-passed_then : (user_of : Request → Option User) (from mid to : NodeState) (xs : List Exchange) (x : Exchange)
+passed_then : (user_of : AreaRequest → Option User) (from mid to : NodeState) (xs : List Exchange) (x : Exchange)
     → Passed user_of from xs mid → Exchanged user_of x mid to → Passed user_of from (xs ++ x ∷ []) to
 passed_then user_of from mid to [] x is last =
     let P : NodeState → Type 0 = λ w. Exchanged user_of x w to in
@@ -125,7 +126,7 @@ by_talk talks board old now taken out answers asked talk.Unanswered other says =
 by_talk talks board old now taken out answers asked talk.OutOfMemory other says = some_of_all taken out answers asked (record { end = talk.OutOfMemory; is = says })
 
 -- of what a speaker has handed out
-module _ {S : Type 0} {user_of : Board → Request → Option User} {has_talked : Board → S → List ℕ → List Given → List ℕ → List Request → Type 0} {board : Board} where
+module _ {S : Type 0} {user_of : Board → AreaRequest → Option User} {has_talked : Board → S → List ℕ → List Given → List ℕ → List Request → Type 0} {board : Board} where
   -- a request was answered, and the talk has heard it
   pub responded : (old now : Wire) (from mid to : NodeState) (rest : List ℕ) (talking after : S) (x : Exchange) (next : Option Request)
       → (s : Stands user_of has_talked board old from now rest talking (Some x.request) mid) → Exchanged (user_of board) x mid to
@@ -228,7 +229,7 @@ module _ {S : Type 0} {user_of : Board → Request → Option User} {has_talked 
     talked = talked;
   }
 
-module _ {S : Type 0} {talks : Talk} {user_of : Board → Request → Option User} {has_talked : Board → S → List ℕ → List Given → List ℕ → List Request → Type 0} {board : Board} where
+module _ {S : Type 0} {talks : Talk} {user_of : Board → AreaRequest → Option User} {has_talked : Board → S → List ℕ → List Given → List ℕ → List Request → Type 0} {board : Board} where
   -- a session that stands with nothing left to hear ends so
   ends_so : (old now now' : Wire) (from to : NodeState) (talking : S) (end : SessionEnd) (part : List ℕ)
       → (s : Stands user_of has_talked board old from now [] talking None to) → MayLack end None → Sends now.sent part now'.sent → now'.to_come ≡ now.to_come → Later now now'
@@ -284,7 +285,7 @@ module _ {S : Type 0} {talks : Talk} {posture : S → Posture} {has_talked : Boa
       (says_part laws talking heard rest out [] answers later asked talked (record { rest = (posture talking).owed; is = refl }))
 
 -- and of a session with it
-module _ {S : Type 0} {talks : Talk} {user_of : Board → Request → Option User} {posture : S → Posture} {has_talked : Board → S → List ℕ → List Given → List ℕ → List Request → Type 0} {board : Board} where
+module _ {S : Type 0} {talks : Talk} {user_of : Board → AreaRequest → Option User} {posture : S → Posture} {has_talked : Board → S → List ℕ → List Given → List ℕ → List Request → Type 0} {board : Board} where
   -- memory was wanting: what was handed out stays, and the last request has no answer
   pub ends_short : IsLawful talks posture has_talked → (old now : Wire) (from mid to : NodeState) (rest : List ℕ) (talking : S) (last : Option Request)
       → Stands user_of has_talked board old from now rest talking last mid → PassedLast (user_of board) mid last to → ServedBy talks user_of board old from OutOfMemory now to
@@ -421,7 +422,7 @@ module _ {S : Type 0} {talks : Talk} {user_of : Board → Request → Option Use
       ends_so old now now from to talking (end_as (posture talking).end) [] s (lacks_none _) (sends_none now.sent) refl (later_refl now) (λ other. record { faults = refl; unsent = refl })
       (by_talk talks board old now s.heard (s.out ++ []) (answers_of s.exchanges) (asks_of s.exchanges ++ []) (posture talking).end other (said laws old now from to talking s [] none))
 
-module _ {talks : Talk} {user_of : Board → Request → Option User} {board : Board} where
+module _ {talks : Talk} {user_of : Board → AreaRequest → Option User} {board : Board} where
   -- memory was wanting before the greeting
   pub served_none : EachTalks talks → (w : Wire) (from : NodeState) → ServedBy talks user_of board w from OutOfMemory w from
   served_none each w from =

@@ -4,6 +4,7 @@ use Rattle.std.specs.List.Sorted.{IsNonDecreasing}
 use Rattle.jb_base.specs.declared.user.User.{User}
 use Rattle.jb_shared.specs.Passes.{Known, PassView}
 use Rattle.jb_speech.specs.Laws.{IsFront}
+use Rattle.jb_speech.specs.declared.request.AreaRequest.{AreaRequest}
 use Rattle.jb_speech.specs.declared.request.Request.{Request}
 use Rattle.jb_session.specs.Exchanges.{Exchange, NodeState, Passed, PassedLast}
 
@@ -19,6 +20,6 @@ pub record RisesOn (old new : Known) : Type 0 where
 
 -- on each pass of a node, through its requests and a last one that memory was wanting for, where there was one
 abbrev pub LooksNeverFall : Type 0
-LooksNeverFall = (user_of : Request → Option User) (exchanges : List Exchange) (last : Option Request) (from mid to : NodeState)
+LooksNeverFall = (user_of : AreaRequest → Option User) (exchanges : List Exchange) (last : Option Request) (from mid to : NodeState)
     → Passed user_of from exchanges mid → PassedLast user_of mid last to
     → (k : ℕ) (pass : PassView) → RisesOn (slice_index_or from.passes k pass).known (slice_index_or to.passes k pass).known

@@ -8,6 +8,7 @@ use Rattle.jb_conf.specs.declared.board.Board.{Board}
 use Rattle.jb_host.specs.Wire.{Wire, Sends, Takes}
 use Rattle.jb_menu.specs.declared.given.Given.{Given}
 use Rattle.jb_speech.specs.Laws.{IsFront, Talk}
+use Rattle.jb_speech.specs.declared.request.AreaRequest.{AreaRequest}
 use Rattle.jb_speech.specs.declared.request.Request.{Request}
 use Rattle.jb_speech.specs.declared.end.TalkEnd.{TalkEnd}
 use Rattle.jb_speech.specs.declared.end.TalkEnd.TheVariants as talk
@@ -60,8 +61,8 @@ abbrev pub MayLack : SessionEnd → Option Request → Type 0
 MayLack OutOfMemory last = Unit
 MayLack _ last = last ≡ None
 
--- where it is known for whom a request is made, too
-module _ (talks : Talk) (asker_of : Board → Request → Option User) (board : Board) where
+-- where it is known for whom an area is asked, too
+module _ (talks : Talk) (asker_of : Board → AreaRequest → Option User) (board : Board) where
   -- a session from its greeting to its end: the bytes taken, the requests that were made of its node and their answers, and the bytes
   -- sent; no read and no write failed but where the link is said to have
   pub record ServedBy (old : Wire) (from : NodeState) (end : SessionEnd) (new : Wire) (to : NodeState) : Type 0 where
@@ -81,7 +82,7 @@ module _ (talks : Talk) (asker_of : Board → Request → Option User) (board : 
     pub ends : EndsAs talks board end old new taken (answers_of exchanges) out (asks_of exchanges ++ option_to_list last)
 
 -- and what the speaker has handed out
-module _ {S : Type 0} (asker_of : Board → Request → Option User) (has_talked : Board → S → List ℕ → List Given → List ℕ → List Request → Type 0) (board : Board) where
+module _ {S : Type 0} (asker_of : Board → AreaRequest → Option User) (has_talked : Board → S → List ℕ → List Given → List ℕ → List Request → Type 0) (board : Board) where
   -- a session in its middle: of the bytes taken, the speaker has heard all but the rest, and what it has handed out was sent and
   -- asked, but for the next request
   pub record Stands (old : Wire) (from : NodeState) (now : Wire) (rest : List ℕ) (speaker : S) (next : Option Request) (to : NodeState) : Type 0 where

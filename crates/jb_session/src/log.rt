@@ -81,17 +81,23 @@ impl Log {
     pub(crate) fn ask<L: Link>(&self, link: &mut L, request: &Request)
         ensures { L.wire link.new ≡ L.wire link.old }
     {
-        if let Act::Ask(Command::Pack) = &request.act {
+        let Request::Area(asked) = request else {
+            return;
+        };
+        if let Act::Ask(Command::Pack) = &asked.act {
             let mut line = Line::new();
-            let area = request.area.saturating_add(1);
+            let area = asked.area.saturating_add(1);
             let _ = write!(line, "area {area}: pack begins");
             link.note(line.as_str());
         }
     }
 
-    /// Keeps what the answer to a request says of the area, and whether a doubt was ended for it.
+    /// Keeps what the answer to a request of an area says of it, and whether a doubt was ended for it.
     pub(crate) fn keep(&mut self, request: &Request, given: &Given, has_settled: bool) {
-        let area = request.area.saturating_add(1);
+        let Request::Area(asked) = request else {
+            return;
+        };
+        let area = asked.area.saturating_add(1);
         if has_settled {
             self.settled = Some(area);
         }

@@ -1,8 +1,9 @@
 -- That there is one conversation over any bytes and answers, and that with more of them it only says and asks more.
-use Rattle.std.specs.Prelude.{◌≡◌, ℕ, List, ◌++◌, length, ◌≢◌, Option, None}
+use Rattle.std.specs.Prelude.{◌≡◌, ℕ, ◌<◌, ◌≤◌, List, ◌++◌, length, ◌≢◌, Option, Some, None}
 use Rattle.jb_conf.specs.declared.board.Board.{Board}
 use Rattle.jb_menu.specs.declared.given.Given.{Given}
 use Rattle.jb_speech.specs.declared.request.Request.{Request}
+use Rattle.jb_speech.specs.declared.request.Request.TheVariants.{Send, Take}
 use Rattle.jb_speech.specs.declared.end.TalkEnd.{TalkEnd}
 use Rattle.jb_speech.specs.declared.end.TalkEnd.TheVariants.{Unanswered}
 use Rattle.jb_speech.specs.Posture.{Posture}
@@ -56,3 +57,13 @@ EachCounts {S} posture has_talked = (board : Board) (speaker : S) (bytes sent : 
 -- a speaker that hands nothing out waits for no answer
 abbrev pub EachWaits : {S : Type 0} → (S → Posture) → (Board → S → Option Request → Type 0) → Type 0
 EachWaits {S} posture hands_out = (board : Board) (speaker : S) → hands_out board speaker None → (posture speaker).end ≢ Unanswered
+
+-- a page is asked for only where there are nodes, and sent only to one of them
+abbrev pub IsWithin : ℕ → Request → Type 0
+IsWithin nodes (Send to text) = (0 < to) × (to ≤ nodes)
+IsWithin nodes Take = 0 < nodes
+IsWithin nodes _ = Unit {0}
+
+-- whatever a speaker hands out is within the nodes that it reaches
+abbrev pub EachReaches : {S : Type 0} → (Board → ℕ) → (Board → S → Option Request → Type 0) → Type 0
+EachReaches {S} reach hands_out = (board : Board) (speaker : S) (request : Request) → hands_out board speaker (Some request) → IsWithin (reach board) request

@@ -5,7 +5,7 @@
 pub enum TalkEnd {
     /// The caller hangs up.
     Hangup,
-    /// An area's answer is missing.
+    /// An answer is missing.
     Unanswered,
     /// The user leaves.
     Quit,

@@ -1,6 +1,6 @@
-//! One side of a conversation: what it sends and asks is a function of the bytes of the other side and of the answers of the areas.
+//! One side of a conversation: what it sends and asks is a function of the bytes of the other side and of what is answered.
 //!
-//! The loop above is generic over [`Speaker`] and proved once. A speaker knows no link and no area: it is given bytes and answers,
+//! The loop above is generic over [`Speaker`] and proved once. A speaker knows no link, no area and no pager: it is given bytes and answers,
 //! and hands out bytes and requests ([`Request`]).
 #![tactic(auto)]
 
@@ -9,5 +9,5 @@ mod request;
 mod speaker;
 
 pub use end::TalkEnd;
-pub use request::{Act, Request};
+pub use request::{Act, AreaRequest, Request};
 pub use speaker::{Heard, MOST_PIECE_BYTES, Speaker};

@@ -5,13 +5,15 @@ ghost use Rattle.jb_limits.specs.declared.limits.TheConstants.{MOST_NAME_BYTES, 
 ghost use Rattle.jb_base.specs.declared.user.User.{User};
 ghost use Rattle.jb_conf.specs.declared.board.Board.{Board};
 ghost use Rattle.jb_menu.specs.declared.given.Given.{Given};
-ghost use Rattle.jb_speech.specs.Laws.{EachCounts, EachWaits, EachStands, EachTalks, TalksGrow, TalksOneWay};
+ghost use Rattle.jb_speech.specs.Laws.{EachCounts, EachReaches, EachWaits, EachStands, EachTalks, TalksGrow, TalksOneWay};
 ghost use Rattle.jb_speech.specs.Posture.{HasFailed, Posture, is_line};
 ghost use Rattle.jb_speech.specs.declared.end.TalkEnd.{TalkEnd};
+ghost use Rattle.jb_speech.specs.declared.request.AreaRequest.{AreaRequest};
 ghost use Rattle.jb_speech.specs.declared.request.Request.{Request};
+ghost use Rattle.jb_speech.specs.declared.request.Request.TheVariants as request_kind;
 
 use crate::end::TalkEnd;
-use crate::request::Request;
+use crate::request::{AreaRequest, Request};
 use jb_base::{OutOfMemory, User};
 use jb_conf::Board;
 use jb_menu::Given;
@@ -25,7 +27,7 @@ pub const MOST_PIECE_BYTES: usize = 4_096;
 pub struct Heard {
     /// The first bytes of the piece, so many.
     pub taken: usize,
-    /// What an area is asked. Where it is nothing, the whole piece was heard.
+    /// What is asked. Where it is nothing, the whole piece was heard.
     pub request: Option<Request>,
 }
 
@@ -43,15 +45,18 @@ pub trait Speaker {
     /// It is one on this board, and waits for an answer exactly where it has handed out a request.
     ghost hands_out: { Board → Self → Option Request → Type 0 };
 
-    /// For whom a request is made, where the board has that user.
-    ghost user_of: { Board → Request → Option User };
+    /// For whom an area is asked, where the board has that user.
+    ghost user_of: { Board → AreaRequest → Option User };
+
+    /// To how many nodes pages are sent, from the first on; where it is 0 none are sent or taken.
+    ghost reach: { Board → ℕ };
 
     /// One that begins.
     fn start(alloc: Global, board: &Board) -> Result<Self, OutOfMemory>
         ensures fits { IfOk result (λ speaker. has_talked board.now speaker [] [] [] []) }
         ensures hands { IfOk result (λ speaker. hands_out board.now speaker None) };
 
-    /// Hears a piece, as far as the byte at which an area is asked something. Bytes behind the end are heard, and lead to nothing.
+    /// Hears a piece, as far as the byte at which something is asked. Bytes behind the end are heard, and lead to nothing.
     fn hear(&mut self, alloc: Global, board: &Board, piece: &[u8]) -> Result<Heard, OutOfMemory>
         requires hands { hands_out board.now self.old None }
         requires room { (posture self.old).taken + length piece.now ≤ MOST_SESSION_BYTES }
@@ -91,16 +96,16 @@ pub trait Speaker {
         ensures hands { IfOk result (λ request. hands_out board.now self.new request) }
         ensures counted { OnOk result ((posture self.new).taken ≡ (posture self.old).taken) }
 
-        // What a line asks of the areas comes to an end.
+        // What a line asks comes to an end.
         ensures fewer { IfOk result (λ request. is_line given.now ≡ false → is_some request ≡ true
             → (posture self.new).most_asked board.now < (posture self.old).most_asked board.now) }
 
         // Want of memory.
         ensures err { OnErr result (HasFailed (posture self.new)) };
 
-    /// The user for whom a request is made, of an area that the board has.
-    fn user_of<'a>(&'a self, board: &'a Board, request: &Request) -> &'a User
-        requires hands { hands_out board.now self.now (Some request.now) }
+    /// The user for whom an area is asked, which the board has.
+    fn user_of<'a>(&'a self, board: &'a Board, request: &AreaRequest) -> &'a User
+        requires hands { hands_out board.now self.now (Some (request_kind.Area request.now)) }
         ensures is { user_of board.now request.now ≡ Some result.now }
         ensures name { length result.now.name ≤ MOST_NAME_BYTES }
         ensures area { request.now.area < length board.now.areas };
@@ -142,13 +147,14 @@ pub trait Speaker {
         false
     }
 
-    /// Over any bytes, with any answers, there is exactly one conversation; with more of them it only says and asks more; and a speaker
-    /// stands at all times where it ends.
+    /// Over any bytes, with any answers, there is exactly one conversation; with more of them it only says and asks more; a speaker
+    /// stands at all times where it ends, and sends pages only to nodes that it reaches.
     fn laws()
         ensures some { EachTalks talks }
         ensures same { TalksOneWay talks }
         ensures grows { TalksGrow talks }
         ensures stands { EachStands talks posture has_talked }
         ensures counts { EachCounts posture has_talked }
-        ensures waits { EachWaits posture hands_out };
+        ensures waits { EachWaits posture hands_out }
+        ensures reaches { EachReaches reach hands_out };
 }

@@ -1,5 +1,5 @@
 -- That each answer leaves fewer requests to come.
-use Rattle.std.proofs.Common.{◌≡◌, ℕ, ◌+◌, ◌<◌, Bool, true, false, List, ◌∷◌, length, Option, Some, None, refl, sym, ◌∙◌, subst, arith}
+use Rattle.std.proofs.Common.{◌≡◌, ℕ, suc, ◌+◌, ◌<◌, Bool, true, false, List, ◌∷◌, length, Option, Some, None, refl, sym, ◌∙◌, subst, arith}
 use Rattle.std.specs.Prelude.{drop, position, option_map, is_some}
 use Rattle.jb_conf.specs.declared.board.Board.{Board}
 use Rattle.jb_state.specs.declared.look.Answer.TheVariants.{Summaries, Figures}
@@ -10,14 +10,19 @@ use Rattle.jb_menu.specs.Boards.{level_of, may_read}
 use Rattle.jb_menu.specs.Answers.{marking_row, reading_row}
 use Rattle.jb_menu.specs.Editing.{peeking_row}
 use Rattle.jb_menu.specs.Menu.{menu_turn, stage_turn}
+use Rattle.jb_menu.specs.Pages.{paging_turn}
 use Rattle.jb_menu.specs.Top.{count_row}
 use Rattle.jb_menu.specs.declared.given.Given.{Given}
 use Rattle.jb_menu.specs.declared.given.Given.TheVariants as given
 use Rattle.jb_menu.specs.declared.moves.Move.{Move}
 use Rattle.jb_menu.specs.declared.moves.Move.TheVariants as move
 use Rattle.jb_menu.specs.declared.moves.Moved.{Moved}
+use Rattle.jb_menu.specs.declared.state.At.{At}
+use Rattle.jb_menu.specs.declared.state.At.TheVariants as at
 use Rattle.jb_menu.specs.declared.state.MenuStage.{MenuStage}
 use Rattle.jb_menu.specs.declared.state.MenuStage.TheVariants as stage
+use Rattle.jb_menu.specs.declared.state.PageStage.{PageStage}
+use Rattle.jb_menu.specs.declared.state.PageStage.TheVariants as page_stage
 use Rattle.jb_menu.specs.declared.state.State.{State}
 use Rattle.jb_menu.specs.declared.state.State.TheVariants as state
 use Rattle.jb_menu.specs.declared.state.Visit.{Visit}
@@ -25,12 +30,14 @@ use Rattle.jb_speech.specs.Posture.{is_line}
 use Rattle.jb_talk.specs.Asking.{most_asked}
 use Rattle.jb_talk.specs.Turns.{Place, given_turn, move_turn}
 
--- the move asks an area
+-- the move asks
 abbrev is_asking : Move → Bool
 is_asking (move.Say text mask) = false
 is_asking (move.Ask area command) = true
 is_asking (move.Look area question) = true
 is_asking (move.Count area) = true
+is_asking (move.Send to text) = true
+is_asking move.Take = true
 is_asking (move.End text end) = false
 
 -- where it asks, fewer requests follow than from this state
@@ -76,11 +83,20 @@ stage_falls board visit stage.Seeking (given.Answer (Summaries (first ∷ rest))
 stage_falls board visit _ (given.Answer (Figures numbers)) line = no
 stage_falls board visit _ _ line = no
 
+-- behind a page so many more are taken at most
+paging_falls : (board : Board) (place : At) (stage : PageStage) (what : Given) → is_line what ≡ false → Falls board (state.Paging place stage) (paging_turn board place stage what)
+paging_falls board (at.Top user) page_stage.Sending (given.Sent result) line = no
+paging_falls board place (page_stage.Taking lines (suc left)) (given.Page (Some page)) line = λ _. omega arith
+paging_falls board _ (page_stage.Taking lines _) (given.Page None) line = no
+paging_falls board _ _ (given.Line typed) line = on line
+paging_falls board _ _ _ line = no
+
 -- everywhere
 falls : (board : Board) (at : State) (what : Given) → IsFor board at → is_line what ≡ false → Falls board at (menu_turn board at what)
 unfolding menu_turn IsFor
 falls board (state.Counting user area lines) (given.Count unread) of line = count_falls board user area lines _ (position (may_read (level_of board user)) (drop (area + 1) board.areas)) of.1
 falls board (state.Area visit at) what of line = stage_falls board visit at what line
+falls board (state.Paging place stage) what of line = paging_falls board place stage what line
 falls board (state.Entering user area) (given.Answer (Figures numbers)) of line = no
 falls board _ (given.Line typed) of line = on line
 falls board _ _ of line = no
@@ -90,6 +106,8 @@ menu_kept place (move.Say text mask) = refl
 menu_kept place (move.Ask area command) = refl
 menu_kept place (move.Look area question) = refl
 menu_kept place (move.Count area) = refl
+menu_kept place (move.Send to text) = refl
+menu_kept place move.Take = refl
 menu_kept place (move.End text end) = refl
 
 asks_by : (place : Place) (step : Move) → is_some (move_turn place step).request ≡ is_asking step
@@ -97,6 +115,8 @@ asks_by place (move.Say text mask) = refl
 asks_by place (move.Ask area command) = refl
 asks_by place (move.Look area question) = refl
 asks_by place (move.Count area) = refl
+asks_by place (move.Send to text) = refl
+asks_by place move.Take = refl
 asks_by place (move.End text end) = refl
 
 -- an answer that leads to a request leaves fewer to come

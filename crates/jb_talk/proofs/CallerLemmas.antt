@@ -1,5 +1,5 @@
--- That each turn keeps the menus on the board, and asks only for the user who is logged in.
-use Rattle.std.proofs.Common.{◌≡◌, ℕ, List, [], ◌∷◌, ◌++◌, Option, None, Some, refl, sym, ◌∙◌, subst, arith}
+-- That each turn keeps the menus on the board, and asks only for the user who is logged in, and while one is.
+use Rattle.std.proofs.Common.{◌≡◌, ℕ, true, List, [], ◌∷◌, ◌++◌, Option, None, Some, refl, ap, subst}
 use Rattle.std.specs.Prelude.{IfSome, is_some}
 use Rattle.jb_conf.specs.declared.board.Board.{Board}
 use Rattle.jb_telnet.specs.declared.event.Event.{Event}
@@ -7,20 +7,23 @@ use Rattle.jb_line.specs.declared.key.Key.{Key}
 use Rattle.jb_line.specs.Typing.{line_of, typing_after}
 use Rattle.jb_option.specs.Table.{sides_after}
 use Rattle.jb_menu.specs.Awaits.{IsFor}
-use Rattle.jb_menu.specs.Menu.{menu_turn}
+use Rattle.jb_menu.specs.Menu.{menu_turn, user_in}
+use Rattle.jb_menu.specs.declared.state.State.{State}
 use Rattle.jb_menu.specs.declared.given.Given.{Given}
 use Rattle.jb_menu.specs.declared.given.Given.TheVariants.{Line}
 use Rattle.jb_menu.proofs.Keeping.{holds_everywhere}
-use Rattle.jb_speech.specs.Conversations.{Turn}
+use Rattle.jb_speech.specs.Conversations.{Turn, conversation}
 use Rattle.jb_speech.specs.declared.request.Request.{Request}
+use Rattle.jb_speech.specs.declared.request.Request.TheVariants.{Area, Clock, Send, Take}
 use Rattle.jb_speech.specs.Laws.{IsFront}
 use Rattle.jb_speech.proofs.Asking.{Keeps, each_is_asked}
 use Rattle.jb_talk.specs.Conversations.{first_place, is_waiting, manner_of}
 use Rattle.jb_talk.specs.Keys.{key_of}
 use Rattle.jb_talk.specs.Laws.{CallersAsk, IsWaitedFor, NobodyAsks}
-use Rattle.jb_talk.specs.Talking.{IsOfCaller, Talking}
+use Rattle.jb_talk.specs.Talking.{MayAsk, Talking}
 use Rattle.jb_talk.specs.Turns.{Place, event_turn, given_turn, line_turn, pressed_turn}
 use Rattle.jb_talk.proofs.MoveLemmas.{hands_moved, not_waiting}
+use Rattle.jb_talk.proofs.PageLemmas.{of_user}
 
 module _ (board : Board) where
   -- the menus are on the board
@@ -30,7 +33,7 @@ module _ (board : Board) where
   abbrev KeepsOn : Turn Place → Type 0
   KeepsOn turn = Keeps IsOn (IsWaitedFor board) turn
 
-  waited : (place : Place) (request : Option Request) → is_waiting place.standing ≡ is_some request → IfSome request (IsOfCaller board place.menu)
+  waited : (place : Place) (request : Option Request) → is_waiting place.standing ≡ is_some request → IfSome request (MayAsk board place.menu)
       → IfSome request (IsWaitedFor board place)
   waited place (Some request) waits of = record { waits = waits; of = of }
   waited place None waits of = tt
@@ -40,7 +43,7 @@ module _ (board : Board) where
       let moved = menu_turn board place.menu given in
       let holds = holds_everywhere board place.menu given on in
       let talk : Talking = record { kept = []; taken = 0; place = record place { menu = moved.state }; owed = [] } in
-      let hands = hands_moved board talk moved.step holds.board holds.here in
+      let hands = hands_moved board talk moved.step holds.board holds.here holds.reaches (of_user board place.menu given on) in
       record { place = hands.menu; request = waited (given_turn board place given).place (given_turn board place given).request hands.waits hands.of }
 
   line_keeps : (place : Place) (line : Option (List ℕ)) → IsOn place → KeepsOn (line_turn board place line)
@@ -67,9 +70,16 @@ callers_ask = λ board bytes out answers asked before request end talked front.
     each_is_asked (manner_of board) (λ place going. not_waiting place.standing going) (IsOn board) (IsWaitedFor board) before request (event_keeps board)
     (given_keeps board) (first_on board) refl refl talked.events answers (subst (λ (w : List Request). IsFront (before ++ request ∷ []) w) talked.asks front)
 
+-- whatever is asked, a user is logged in
+user_asks : (board : Board) (menu : State) (request : Request) → MayAsk board menu request → is_some (user_in menu) ≡ true
+user_asks board menu (Area request) may = ap is_some may.logged_in
+user_asks board menu Clock may = absurd may
+user_asks board menu (Send to text) may = may.0
+user_asks board menu Take may = may
+
 pub nobody_asks : NobodyAsks
 nobody_asks board bytes out answers [] end = λ talked nobody. refl
 nobody_asks board bytes out answers (request ∷ asked) end = λ talked nobody.
     let asks = callers_ask board bytes out answers (request ∷ asked) [] request end talked (record { rest = asked; is = refl }) in
-    let none : None ≡ Some request.user = sym (nobody asks.front asks.given asks.heard asks.answered) ∙ asks.of.of.logged_in in
-    absurd (grind (arith, none))
+    let menu = (conversation (manner_of board) asks.given asks.front).course.place.menu in
+    absurd (cc (nobody asks.front asks.given asks.heard asks.answered, user_asks board menu request asks.of.of))

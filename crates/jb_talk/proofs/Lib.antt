@@ -1,3 +1,4 @@
+mod PageLemmas
 mod MoveLemmas
 mod Asking
 mod CallerLemmas

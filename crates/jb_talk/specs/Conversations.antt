@@ -1,4 +1,4 @@
--- A conversation: what is sent and asked over all bytes of a caller, with all answers of the areas, and how it ends.
+-- A conversation: what is sent and asked over all bytes of a caller, with all answers, and how it ends.
 use Rattle.std.specs.Prelude.{ℕ, ◌==◌, Bool, true, false, List, [], ◌++◌, if◌then◌else◌}
 use Rattle.std.specs.List.{flat_map}
 use Rattle.jb_limits.specs.declared.limits.TheConstants.{MOST_SESSION_BYTES}
@@ -23,7 +23,7 @@ abbrev pub is_going : Standing → Bool
 is_going On = true
 is_going _ = false
 
--- it waits for an area's answer
+-- it waits for an answer
 abbrev pub is_waiting : Standing → Bool
 is_waiting Waits = true
 is_waiting _ = false

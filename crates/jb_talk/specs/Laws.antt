@@ -1,4 +1,4 @@
--- That requests are made only for the user who is logged in.
+-- That requests are made only for the user who is logged in, and only while there is one.
 use Rattle.std.specs.Prelude.{◌≡◌, true, ℕ, List, [], ◌∷◌, ◌++◌, None}
 use Rattle.jb_conf.specs.declared.board.Board.{Board}
 use Rattle.jb_telnet.specs.declared.event.Event.{Event}
@@ -9,15 +9,15 @@ use Rattle.jb_speech.specs.Laws.{IsFront}
 use Rattle.jb_speech.specs.declared.end.TalkEnd.{TalkEnd}
 use Rattle.jb_speech.specs.declared.request.Request.{Request}
 use Rattle.jb_talk.specs.Conversations.{Talks, is_waiting, manner_of}
-use Rattle.jb_talk.specs.Talking.{IsOfCaller}
+use Rattle.jb_talk.specs.Talking.{MayAsk}
 use Rattle.jb_talk.specs.Turns.{Place}
 
--- the answer to the request is waited for, and its user is logged in
+-- the answer to the request is waited for, and it may be asked there
 pub record IsWaitedFor (board : Board) (place : Place) (request : Request) : Type 0 where
   pub waits : is_waiting place.standing ≡ true
-  pub of : IsOfCaller board place.menu request
+  pub of : MayAsk board place.menu request
 
--- each request of a conversation is of the user who is logged in as it is asked
+-- each request of a conversation may be asked where it is asked: an area for the user who is logged in there, and pages while one is
 abbrev pub CallersAsk : Type 0
 CallersAsk = (board : Board) (bytes out : List ℕ) (answers : List Given) (asked before : List Request) (request : Request) (end : TalkEnd)
     (talked : Talks board bytes answers out asked end) → IsFront (before ++ request ∷ []) asked

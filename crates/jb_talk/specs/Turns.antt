@@ -1,4 +1,4 @@
--- What an event and an answer lead to: where the talk is then, what is sent, and what an area is asked.
+-- What an event and an answer lead to: where the talk is then, what is sent, and what is asked.
 use Rattle.std.specs.Prelude.{ℕ, List, [], ◌++◌, Option, Some, None, unwrap_or, if◌then◌else◌}
 use Rattle.std.specs.List.{flat_map}
 use Rattle.jb_conf.specs.declared.board.Board.{Board}
@@ -17,6 +17,8 @@ use Rattle.jb_menu.specs.Menu.{menu_turn, user_in}
 use Rattle.jb_speech.specs.Conversations.{Turn}
 use Rattle.jb_speech.specs.declared.request.Act.{Act}
 use Rattle.jb_speech.specs.declared.request.Act.TheVariants.{Ask, Look, Count}
+use Rattle.jb_speech.specs.declared.request.Request.{Request}
+use Rattle.jb_speech.specs.declared.request.Request.TheVariants.{Area, Send, Take}
 use Rattle.jb_talk.specs.declared.standing.Standing.{Standing}
 use Rattle.jb_talk.specs.declared.standing.Standing.TheVariants.{On, Waits, Over}
 use Rattle.jb_talk.specs.Keys.{key_of, yes_of, echo_bytes}
@@ -32,21 +34,23 @@ pub record Place : Type 0 where
 abbrev pub says : Place → List ℕ → Turn Place
 says place text = record { place = place; text = text; request = None }
 
+-- this is asked, and its answer is waited for
+abbrev pub requests : Place → Request → Turn Place
+requests place request = record { place = record place { standing = Waits }; text = []; request = Some request }
+
 -- an area is asked this for the user who is logged in
-abbrev pub requests : Place → ℕ → Act → Turn Place
-requests place area act = record {
-  place = record place { standing = Waits };
-  text = [];
-  request = Some (record { user = unwrap_or (user_in place.menu) 0; area = area; act = act });
-}
+abbrev pub asks_area : Place → ℕ → Act → Turn Place
+asks_area place area act = requests place (Area (record { user = unwrap_or (user_in place.menu) 0; area = area; act = act }))
 
 -- a move of the menus: the byte 255 of its text is doubled, and the line behind it is typed unseen where it says so
 abbrev pub move_turn : Place → Move → Turn Place
 move_turn place (move.Say text mask) =
     says (record place { typing = record place.typing { masked = mask }; standing = On }) (flat_map doubled text)
-move_turn place (move.Ask area command) = requests place area (Ask command)
-move_turn place (move.Look area question) = requests place area (Look question)
-move_turn place (move.Count area) = requests place area Count
+move_turn place (move.Ask area command) = asks_area place area (Ask command)
+move_turn place (move.Look area question) = asks_area place area (Look question)
+move_turn place (move.Count area) = asks_area place area Count
+move_turn place (move.Send to text) = requests place (Send to text)
+move_turn place move.Take = requests place Take
 move_turn place (move.End text end) = says (record place { standing = Over end }) (flat_map doubled text)
 
 -- the menus are in another state, and move

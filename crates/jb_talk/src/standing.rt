@@ -9,7 +9,7 @@ use jb_menu::MenuEnd;
 pub enum Standing {
     /// It goes on with what the caller sends.
     On,
-    /// It waits for an area's answer.
+    /// It waits for an answer.
     Waits,
     /// The menus have ended it.
     Over(MenuEnd),

@@ -13,7 +13,7 @@ use jb_conf::Board;
 use jb_line::LineEditor;
 use jb_menu::{Given, Menu, MenuEnd};
 use jb_option::Options;
-use jb_speech::{Heard, MOST_PIECE_BYTES, Request, Speaker, TalkEnd};
+use jb_speech::{AreaRequest, Heard, MOST_PIECE_BYTES, Request, Speaker, TalkEnd};
 use jb_telnet::{Decoder, bytes_are_cut_one_way, encode};
 use std::alloc::Global;
 use std::marker::Model;
@@ -73,6 +73,8 @@ impl Speaker for Talk {
 
     ghost user_of = { asker_of };
 
+    ghost reach = { λ board. board.nodes };
+
     // It owes the offers of the board, its name and the first question.
     fn start(alloc: Global, board: &Board) -> Result<Self, OutOfMemory> {
         let (menu, text) = Menu::start(alloc, board)?;
@@ -128,7 +130,7 @@ impl Speaker for Talk {
         }
     }
 
-    fn user_of<'a>(&'a self, board: &'a Board, request: &Request) -> &'a User {
+    fn user_of<'a>(&'a self, board: &'a Board, request: &AreaRequest) -> &'a User {
         &board.users.as_slice()[request.user as usize].user
     }
 

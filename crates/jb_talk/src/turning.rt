@@ -13,7 +13,7 @@ ghost use Rattle.jb_talk.specs.Keys.{yes_of};
 ghost use Rattle.jb_speech.specs.Conversations.{owing};
 ghost use Rattle.jb_speech.specs.Posture.{HasFailed};
 ghost use Rattle.jb_talk.specs.Talking.{Hands, HasTalked, posture_of};
-ghost use Rattle.jb_talk.specs.Turns.{event_turn, given_turn, key_turn, key_echo, line_turn, move_turn, pressed_turn, requests, says};
+ghost use Rattle.jb_talk.specs.Turns.{asks_area, event_turn, given_turn, key_turn, key_echo, line_turn, move_turn, pressed_turn, requests, says};
 
 use crate::keys::{append_echo, key_of, yes_of};
 use crate::standing::Standing;
@@ -22,7 +22,7 @@ use jb_base::{Bytes, OutOfMemory};
 use jb_conf::Board;
 use jb_line::{Key, Line};
 use jb_menu::{Given, Move};
-use jb_speech::{Act, Request};
+use jb_speech::{Act, AreaRequest, Request};
 use jb_telnet::{Event, encode};
 use std::alloc::Global;
 
@@ -44,14 +44,22 @@ impl Talk {
         Ok(())
     }
 
-    /// Waits for what an area answers.
-    fn request(&mut self, area: u32, act: Act) -> Request
-        ensures turn { self.new ≡ owing self.old (requests self.old.place area act) }
-        ensures request { (requests self.old.place area act).request ≡ Some result }
+    /// Waits for the answer to this request.
+    fn ask(&mut self, request: Request) -> Request
+        ensures turn { self.new ≡ owing self.old (requests self.old.place request) }
+        ensures request { result ≡ request }
     {
         self.standing = Standing::Waits;
+        request
+    }
+
+    /// Asks an area for the user who is logged in.
+    fn ask_area(&mut self, area: u32, act: Act) -> Request
+        ensures turn { self.new ≡ owing self.old (asks_area self.old.place area act) }
+        ensures request { (asks_area self.old.place area act).request ≡ Some result }
+    {
         let user = self.menu.user().unwrap_or(0);
-        Request { user, area, act }
+        self.ask(Request::Area(AreaRequest { user, area, act }))
     }
 
     /// Does what the menus say.
@@ -66,9 +74,11 @@ impl Talk {
                 self.standing = Standing::On;
                 Ok(None)
             }
-            Move::Ask { area, command } => Ok(Some(self.request(area, Act::Ask(command)))),
-            Move::Look { area, question } => Ok(Some(self.request(area, Act::Look(question)))),
-            Move::Count { area } => Ok(Some(self.request(area, Act::Count))),
+            Move::Ask { area, command } => Ok(Some(self.ask_area(area, Act::Ask(command)))),
+            Move::Look { area, question } => Ok(Some(self.ask_area(area, Act::Look(question)))),
+            Move::Count { area } => Ok(Some(self.ask_area(area, Act::Count))),
+            Move::Send { to, text } => Ok(Some(self.ask(Request::Send { to, text }))),
+            Move::Take => Ok(Some(self.ask(Request::Take))),
             Move::End { text, end } => {
                 self.say(alloc, &text)?;
                 self.standing = Standing::Over(end);

@@ -9,7 +9,7 @@ use Rattle.jb_model.specs.declared.reply.Reply.TheVariants as reply
 use Rattle.jb_state.specs.declared.look.SharedFault.TheVariants as fault
 use Rattle.jb_text.specs.Faults.{fault_text}
 use Rattle.jb_text.specs.Letter.{body_text, heading_text, letter_text, lines_of, pieces_of}
-use Rattle.jb_text.specs.Lines.{area_line_text, figures_text, line_end, listing_text, prompt_text, replying_text, start_text, welcome_text}
+use Rattle.jb_text.specs.Lines.{area_line_text, figures_text, line_end, listing_text, node_full_text, page_line_text, prompt_text, replying_text, start_text, welcome_text}
 use Rattle.jb_text.specs.Replies.{reply_text}
 use Rattle.jb_text.specs.Shown.{shown}
 
@@ -67,6 +67,12 @@ session_lines : (start_text (codes "Test Board") ≡ codes "Test Board" ++ 13 �
     × (figures_text 65000 0 ≡ codes "65000 visible, 0 unread.") × (replying_text (codes "Test") (codes "Re: abc") ≡ codes "Reply to Test, subject Re: abc")
 unfolding digits
 session_lines = (refl, refl, refl, refl)
+
+-- pages, with control characters and without a text, and a node for which no more fit
+lines_of_pages : (page_line_text 1 (codes "hi") ≡ codes "Page from node 1: hi") × (page_line_text 32 (7 ∷ 255 ∷ 127 ∷ []) ≡ codes "Page from node 32: ?" ++ 255 ∷ 63 ∷ [])
+    × (page_line_text 10 [] ≡ codes "Page from node 10: ") × (node_full_text 2 ≡ codes "Node 2 is full.")
+unfolding digits
+lines_of_pages = (refl, refl, refl, refl)
 
 -- replies, refusals and faults with numbers in them
 answer_lines : (reply_text (reply.Posted 2) ≡ codes "Posted as 2.") × (reply_text (reply.Killed 16777215) ≡ codes "Killed 16777215.")

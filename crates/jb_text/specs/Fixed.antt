@@ -1,7 +1,7 @@
 -- The texts that are always the same.
 use Rattle.std.specs.Prelude.{ℕ, List, codes}
 use Rattle.jb_text.specs.declared.standing.Fixed.{Fixed}
-use Rattle.jb_text.specs.declared.standing.Fixed.TheVariants.{AskName, AskPassword, LoginIncorrect, Goodbye, NoSuchArea, NoUnread, NoMessageShown, AskTo, AskSubject, AskEdit, AskPrivate, Cancelled, TextFull, TextLine, Nothing, UnknownCommand, TopPrompt}
+use Rattle.jb_text.specs.declared.standing.Fixed.TheVariants.{AskName, AskPassword, LoginIncorrect, Goodbye, NoSuchArea, NoUnread, NoMessageShown, AskTo, AskSubject, AskEdit, AskPrivate, Cancelled, TextFull, TextLine, Nothing, NoSuchNode, AskPage, PageSent, PagesSpent, NoPages, UnknownCommand, TopPrompt}
 
 -- the bytes of each, without an end of line
 abbrev pub fixed_text : Fixed → List ℕ
@@ -20,5 +20,10 @@ fixed_text Cancelled = codes "Cancelled."
 fixed_text TextFull = codes "Text full, line dropped."
 fixed_text TextLine = codes "Text, . ends, ! cancels"
 fixed_text Nothing = codes "Nothing."
+fixed_text NoSuchNode = codes "No such node."
+fixed_text AskPage = codes "Page: "
+fixed_text PageSent = codes "Sent."
+fixed_text PagesSpent = codes "Pages spent."
+fixed_text NoPages = codes "No pages."
 fixed_text UnknownCommand = codes "Unknown command."
 fixed_text TopPrompt = codes "Top> "

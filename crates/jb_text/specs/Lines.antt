@@ -1,4 +1,4 @@
--- The lines of a session that name an area, a user or a message.
+-- The lines of a session that name an area, a user, a message or a node.
 use Rattle.std.specs.Prelude.{ℕ, List, [], ◌∷◌, ◌++◌, codes, decimal}
 use Rattle.jb_text.specs.Numbers.{left_in, right_in}
 use Rattle.jb_text.specs.Shown.{shown}
@@ -36,3 +36,11 @@ replying_text from subject = codes "Reply to " ++ shown from ++ codes ", subject
 abbrev pub listing_text : ℕ → List ℕ → List ℕ → List ℕ → List ℕ
 listing_text number from to subject =
     right_in 8 number ++ codes "  " ++ shown from ++ codes " > " ++ shown to ++ codes "  " ++ shown subject
+
+-- as many pages as there is room for wait for the node
+abbrev pub node_full_text : ℕ → List ℕ
+node_full_text node = codes "Node " ++ decimal node ++ codes " is full."
+
+-- a page, with the node that sent it
+abbrev pub page_line_text : ℕ → List ℕ → List ℕ
+page_line_text from page = codes "Page from node " ++ decimal from ++ codes ": " ++ shown page

@@ -2,7 +2,7 @@
 //! reader sees it, the line of each reply and fault of an area, and the date of a moment.
 //!
 //! The layer above may rely on the definitions in `specs/`: each call gives exactly the bytes that they say. Lines end with
-//! CR LF (RFC 854, "The NVT printer and keyboard"). Names, subjects and texts come from others: a control character in them
+//! CR LF (RFC 854, "The NVT printer and keyboard"). Names, subjects, texts and pages come from others: a control character in them
 //! (a byte below 32, or 127) is shown as `?`, all other bytes as they are. The byte 255 is not doubled here: what sends the
 //! text to a terminal does that. [`start`] and [`letter`] give whole lines with their ends, the others one line without
 //! its end; [`append_line_end`] puts one behind it. [`append_listing`] puts the line of [`listing`] behind others. Each call
@@ -24,7 +24,8 @@ pub use dates::date;
 pub use digits::number_up_to;
 pub use letters::letter;
 pub use lines::{
-    append_listing, area_line, figures, fixed, listing, prompt, replying, start, welcome,
+    append_listing, area_line, figures, fixed, listing, node_full, page_line, prompt, replying,
+    start, welcome,
 };
 pub use standing::Fixed;
 pub use writing::append_line_end;

@@ -1,7 +1,7 @@
 //! The lines of a session, but for messages, replies and faults.
 ghost use Rattle.std.specs.Prelude.{◌≡◌, ◌+◌, ◌≤◌, ◌++◌, length, IfOk, OnOk, IsTrue};
 ghost use Rattle.jb_text.specs.Fixed.{fixed_text};
-ghost use Rattle.jb_text.specs.Lines.{area_line_text, figures_text, listing_text, prompt_text, replying_text, start_text, welcome_text};
+ghost use Rattle.jb_text.specs.Lines.{area_line_text, figures_text, listing_text, node_full_text, page_line_text, prompt_text, replying_text, start_text, welcome_text};
 
 use crate::Fixed;
 use crate::draft::{DRAFT_BYTES, LineDraft};
@@ -34,6 +34,11 @@ fn bytes_of(text: Fixed) -> &'static [u8]
         Fixed::TextFull => b"Text full, line dropped.",
         Fixed::TextLine => b"Text, . ends, ! cancels",
         Fixed::Nothing => b"Nothing.",
+        Fixed::NoSuchNode => b"No such node.",
+        Fixed::AskPage => b"Page: ",
+        Fixed::PageSent => b"Sent.",
+        Fixed::PagesSpent => b"Pages spent.",
+        Fixed::NoPages => b"No pages.",
         Fixed::UnknownCommand => b"Unknown command.",
         Fixed::TopPrompt => b"Top> ",
     }
@@ -112,6 +117,27 @@ pub fn replying(alloc: Global, from: &[u8], subject: &[u8]) -> Result<Bytes, Out
     append_shown(&mut text, from)?;
     text.append(b", subject ")?;
     append_shown(&mut text, subject)?;
+    Ok(text)
+}
+
+/// That so many pages wait for the node with this number that no more fit.
+pub fn node_full(alloc: Global, node: u32) -> Result<Bytes, OutOfMemory>
+    ensures { IfOk result (λ text. text ≡ node_full_text node) }
+{
+    let mut text = Bytes::copy(alloc, b"Node ")?;
+    append_number(&mut text, u64::from(node))?;
+    text.append(b" is full.")?;
+    Ok(text)
+}
+
+/// A page, and the number of the node that sent it.
+pub fn page_line(alloc: Global, from: u32, page: &[u8]) -> Result<Bytes, OutOfMemory>
+    ensures { IfOk result (λ text. text ≡ page_line_text from page.now) }
+{
+    let mut text = Bytes::copy(alloc, b"Page from node ")?;
+    append_number(&mut text, u64::from(from))?;
+    text.append(b": ")?;
+    append_shown(&mut text, page)?;
     Ok(text)
 }
 

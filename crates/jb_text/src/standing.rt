@@ -33,6 +33,16 @@ pub enum Fixed {
     TextLine,
     /// The list is empty.
     Nothing,
+    /// The board has no node with this number.
+    NoSuchNode,
+    /// Asks for the text of a page.
+    AskPage,
+    /// The page is sent.
+    PageSent,
+    /// The node sends no more pages.
+    PagesSpent,
+    /// No page waits for the node.
+    NoPages,
     /// The line is no command.
     UnknownCommand,
     /// The prompt outside of any area.

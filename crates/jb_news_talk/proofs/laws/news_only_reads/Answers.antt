@@ -19,7 +19,7 @@ use Rattle.jb_news_talk.proofs.laws.news_only_reads.Goals as goal
 module _ (board : Board) where
   -- a request only reads, wherever it is asked
   abbrev Reads : NewsPlace → Request → Type 0
-  Reads place one = OnlyReads board one.act one.area
+  Reads place = OnlyReads board
 
   keeps : (turn : Turn NewsPlace) → IsTurnOn board turn → Keeps (IsPlaceOn board) Reads turn
   keeps turn on = record { place = on.place; request = on.reads }

@@ -1,4 +1,5 @@
-use Rattle.std.proofs.Common.{◌∙◌, ap, length}
+use Rattle.std.proofs.Common.{◌++◌, ◌∙◌, List, ap, length, reverse}
+use Rattle.jb_page.specs.Pagers.{PagerView}
 use Rattle.jb_run.specs.Lines.{first_lines}
 use Rattle.jb_run.specs.Workers.{HasLine}
 use Rattle.jb_run.proofs.Crew.{stops_all}
@@ -18,3 +19,12 @@ returns-clause-err g c =
     let has = c.in_ok-open_news.ensures.ok old c.in_ok-open_nodes.ensures.ok in
     stops_all g.H.Door.Door.gate g.H.Clock.Clock.readings g.H.Host.door_for c.args.calls c.args.board.now (length c.as_slice.result.now) c.bell.result
     c.open_news.new.workers.items old (g.H.Host.desk c.open_news.new.host) (g.H.Host.desk c.bell.new.self) (ap length c.as_slice.ensures) has c.bell.ensures.err
+
+-- the pagers are those of the nodes
+pub returns-in_err-open_news-clause-pagers : goal.returns-in_err-open_news-clause-pagers
+returns-in_err-open_news-clause-pagers g c =
+    ap (λ (l : List PagerView). c.open_nodes.new.pagers.items ++ reverse l) c.open_news.ensures.pagers ∙ c.in_ok-open_nodes.ensures.pagers
+
+pub returns-clause-pagers : goal.returns-clause-pagers
+returns-clause-pagers g c =
+    ap (λ (l : List PagerView). c.open_nodes.new.pagers.items ++ reverse l) c.in_ok-open_news.ensures.pagers ∙ c.in_ok-open_nodes.ensures.pagers

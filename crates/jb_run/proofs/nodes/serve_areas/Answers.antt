@@ -1,7 +1,7 @@
 use Rattle.std.proofs.Common.{◌≡◌, ℕ, ◌+◌, ◌++◌, ◌∷◌, [], List, ap, arith, length, subst, sym, take, ◌∙◌}
 use Rattle.std.specs.Prelude.{All, Option}
 use Rattle.std.proofs.Math.Seq.{take-length}
-use Rattle.std.proofs.lemmas.List.{length-set}
+use Rattle.std.proofs.lemmas.List.{length-reverse, length-set}
 use Rattle.jb_run.proofs.RowLemmas.{length-lists_of}
 use Rattle.jb_run.proofs.WholeLemmas.{whole_own}
 use Rattle.jb_run.specs.All.{Abandons, AreOpenable, AreShared, ClosesAll, OpenAs}
@@ -9,9 +9,11 @@ use Rattle.jb_run.specs.Rows.{lists_of}
 use Rattle.jb_run.specs.declared.opening.SharedAreas.{SharedAreas}
 use Rattle.jb_conf.specs.declared.board.BoardArea.{BoardArea}
 use Rattle.jb_host.specs.Desk.{Desk}
+use Rattle.jb_page.specs.Pagers.{AreNewPagers}
 use Rattle.jb_server.specs.declared.worker.PackSlot.{PackSlot}
 use Rattle.jb_server.specs.declared.worker.Worker.TheVariants.{Packer}
 use Rattle.jb_run.specs.Lines.{PutsDoors, lines_for}
+use Rattle.jb_run.specs.NodePages.{ArePagersOf}
 use Rattle.jb_run.specs.Workers.{HasLine, IsFresh, OpensLines, Rows, gates_of, with_passes}
 use Rattle.jb_run.specs.Working.{AreAllOf}
 use Rattle.jb_run.proofs.OverLemmas.{AllKeepStarts}
@@ -19,6 +21,7 @@ use Rattle.jb_run.proofs.NodesClosing.{all_of_whole, are_openable, whole_after, 
 use Rattle.jb_run.proofs.NodesServing.{runs_on}
 use Rattle.jb_run.proofs.Numbers.{length-lines_for}
 use Rattle.jb_run.proofs.Own.{have_doors, numbers_are, own_lines, rows_taken}
+use Rattle.jb_run.proofs.PagerLemmas.{pagers_all}
 use Rattle.jb_run.proofs.Starts.{work_keeps}
 use Rattle.jb_run.proofs.Zips.{zip_long}
 use Rattle.jb_run.proofs.nodes.serve_areas.Goals as goal
@@ -60,6 +63,22 @@ work-door_failed-requires-clause-ours g c κs within =
     ∙ c.in-Ok.ensures.rows in
     subst (AreAllOf shared.areas.items) (sym rows) (all_of_whole shared (length lines + 1) count c.requires.whole)
 
+-- each node has its pager
+pub work-door_failed-requires-clause-pagers : goal.work-door_failed-requires-clause-pagers
+work-door_failed-requires-clause-pagers g c κs within =
+    subst (AreNewPagers c.args.board.now.nodes)
+    (pagers_all c.open_lines.new.workers.items c.open_lines.new.pagers.items c.args.room.node_pages.pagers.items c.in-Ok.ensures.given c.in-Ok.ensures.pagers) c.requires.pagers
+
+pub work-door_failed-requires-clause-of : goal.work-door_failed-requires-clause-of
+work-door_failed-requires-clause-of g c κs within =
+    subst (ArePagersOf c.args.room.node_pages.pages)
+    (pagers_all c.open_lines.new.workers.items c.open_lines.new.pagers.items c.args.room.node_pages.pagers.items c.in-Ok.ensures.given c.in-Ok.ensures.pagers) c.requires.of
+
+pub work-door_failed-requires-clause-pager_room : goal.work-door_failed-requires-clause-pager_room
+work-door_failed-requires-clause-pager_room g c κs within =
+    let pagers = c.args.room.node_pages.pagers in
+    omega (arith, c.in-Ok.ensures.pager_room, c.requires.pagers.count, length-reverse pagers.items, pagers.ok.0, pagers.ok.1)
+
 pub close_areas-is_doubtful-requires-clause-areas : goal.close_areas-is_doubtful-requires-clause-areas
 close_areas-is_doubtful-requires-clause-areas g c = subst AreOpenable (sym c.as_slice-in-Ok.ensures) (are_openable c.args.board.now)
 
@@ -85,7 +104,7 @@ close_areas-is_doubtful-requires-clause-whole g c =
     let keep : AllKeepStarts (lists_of shared.nodes.items) (lists_of now.items)
     = subst (λ (l : Rows). AllKeepStarts l (lists_of now.items)) rows
     (λ n within. work_keeps (g.H.Host.desk c.tell_open.new.host).readings board c.args.calls (gates_of g.H.Door.Door.gate workers) worked.gates_after (g.H.Bell.Bell.rings c.in-Ok.bell) worked.rings_after
-    (with_passes crew left) (lists_of now.items) worked.tallies worked.works n within) in
+    (with_passes crew left) (lists_of now.items) worked.pagers worked.pagers_after worked.tallies worked.works n within) in
     let ours : AreAllOf shared.areas.items (lists_of now.items)
     = subst (λ (s : SharedAreas D). AreAllOf s.areas.items (lists_of now.items)) same_areas c.work-door_failed.ensures.ours in
     let whole : AreShared (record shared { nodes = now }) (length lines + 1) count
@@ -101,6 +120,11 @@ part_lines-requires-clause-own g c =
     let stops = c.in-Err.ensures.err.stops in
     own_lines c.args.board.now c.args.calls stops.done stops.left stops.parts c.open_lines.new.workers.items c.in-Err.ensures.err.each (length c.open_lines.new.nodes.items)
     (omega (arith, c.in-Err.ensures.lists, c.requires.whole.lists))
+
+pub part_lines-requires-clause-room : goal.part_lines-requires-clause-room
+part_lines-requires-clause-room g c =
+    let pagers = c.args.room.node_pages.pagers in
+    omega (arith, c.in-Err.ensures.pager_room, ap length c.in-Err.ensures.pagers, pagers.ok.0, pagers.ok.1)
 
 pub abandon_areas-requires-clause-areas : goal.abandon_areas-requires-clause-areas
 abandon_areas-requires-clause-areas g c = subst AreOpenable (sym c.as_slice-in-Err.ensures) (are_openable c.args.board.now)

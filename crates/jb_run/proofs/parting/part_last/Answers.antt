@@ -1,12 +1,14 @@
-use Rattle.std.proofs.Common.{◌-◌, ℕ, List, ap, subst}
-use Rattle.std.specs.Prelude.{All}
+use Rattle.std.proofs.Common.{◌-◌, ◌++◌, ◌∙◌, ℕ, List, ap, arith, length, subst, sym}
+use Rattle.std.specs.Prelude.{All, Option, option_to_list}
 use Rattle.jb_host.specs.Desk.{TakesDoor}
 use Rattle.jb_host.specs.Gate.{Gate}
+use Rattle.jb_page.specs.Pagers.{PagerView}
 use Rattle.jb_server.specs.declared.tally.Tally.{Tally}
 use Rattle.jb_server.specs.declared.worker.Worker.{Worker}
-use Rattle.jb_run.specs.Workers.{HasDoor, gate_of}
+use Rattle.jb_run.specs.Workers.{HasDoor, gate_of, with_pagers}
 use Rattle.jb_run.proofs.EachLemmas.{all_end}
 use Rattle.jb_run.proofs.Own.{has_slot, rows_given}
+use Rattle.jb_run.proofs.PagerLemmas.{pager_fits, pager_given}
 use Rattle.jb_run.proofs.parting.part_last.Goals as goal
 
 -- the last has a door
@@ -36,3 +38,31 @@ returns-clause-rows g c =
     let has = has_slot one slot c.slot_of-node.ensures in
     rows_given c.args.workers.now.items c.pop.new.self.items one c.args.nodes.now.items slot.passes (slot.node - 1) c.in_ok-worker.ensures.items
     (ap (λ (n : ℕ). n - 1) has.number) has.passes
+
+-- there is room for its pager
+pub put_back-requires : goal.put_back-requires
+put_back-requires g c =
+    let W : Type 0 = Worker g.row.H-Door.Denot g.row.H-Bell.Denot g.row.H-Clock.Denot in
+    let one = c.in_ok-worker.worker in
+    let slot = c.slot_of-node.result in
+    let has = has_slot one slot c.slot_of-node.ensures in
+    let waiting = c.args.pagers.now.items in
+    omega (
+      arith,
+      c.requires.room,
+      ap (λ (l : List W). length (with_pagers l waiting)) c.in_ok-worker.ensures.items,
+      ap (λ (o : Option PagerView). length (option_to_list o)) has.pager,
+      pager_fits c.pop.new.self.items one waiting,
+    )
+
+pub returns-clause-pagers : goal.returns-clause-pagers
+returns-clause-pagers g c =
+    let W : Type 0 = Worker g.row.H-Door.Denot g.row.H-Bell.Denot g.row.H-Clock.Denot in
+    let one = c.in_ok-worker.worker in
+    let slot = c.slot_of-node.result in
+    let has = has_slot one slot c.slot_of-node.ensures in
+    let fewer = c.pop.new.self.items in
+    let waiting = c.args.pagers.now.items in
+    ap (λ (l : List PagerView). with_pagers fewer l) c.put_back.ensures.items
+    ∙ ap (λ (o : Option PagerView). with_pagers fewer (waiting ++ option_to_list o)) has.pager ∙ pager_given fewer one waiting
+    ∙ ap (λ (l : List W). with_pagers l waiting) (sym c.in_ok-worker.ensures.items)

@@ -1,4 +1,4 @@
-use Rattle.std.proofs.Common.{◌≡◌, ℕ, sym, ◌∙◌, ap, refl, subst}
+use Rattle.std.proofs.Common.{◌≡◌, ℕ, sym, ◌∙◌, ap, refl, subst, None}
 use Rattle.jb_base.specs.declared.user.User.{User}
 use Rattle.jb_host.specs.Rings.{Rings}
 use Rattle.jb_session.specs.Exchanges.{node_with}
@@ -17,9 +17,9 @@ loop-ring-preserved g c =
     let user = c.args.slot.now.user in
     let rings = g.B.Bell.rings in
     let came = c.pack-came.result in
-    let first = node_with (g.C.Clock.readings c.args.slot.now.clock) c.args.slot.now.passes.items in
-    let from = node_with (g.C.Clock.readings c.loop-ring.slot.clock) c.loop-ring.slot.passes.items in
-    let to = node_with (g.C.Clock.readings c.pack-came.new.self.clock) c.pack-came.new.self.passes.items in
+    let first = node_with (g.C.Clock.readings c.args.slot.now.clock) c.args.slot.now.passes.items None in
+    let from = node_with (g.C.Clock.readings c.loop-ring.slot.clock) c.loop-ring.slot.passes.items None in
+    let to = node_with (g.C.Clock.readings c.pack-came.new.self.clock) c.pack-came.new.self.passes.items None in
     let U : User → Type 0 = λ w. AnswersRing w c.in-Pack.number came from to in
     let B : Rings → Type 0 = λ w. IsPacking user (rings c.args.slot.now.bell) first c.args.slot.now.packs w to c.count_pack-slot.result in
     let N : ℕ → Type 0 = λ w. IsPacking user (rings c.args.slot.now.bell) first c.args.slot.now.packs (rings c.next-in-loop-ring.new.self) to w in

@@ -1,5 +1,5 @@
 use Rattle.std.proofs.Common.{◌≡◌, ap, sym, subst, ◌∙◌}
-use Rattle.jb_menu.specs.Awaits.{AsksHere, Awaits, IsFor, awaited_in, wanted_by}
+use Rattle.jb_menu.specs.Awaits.{AsksHere, Awaits, IsFor, Reaches, awaited_in, wanted_by}
 use Rattle.jb_menu.specs.Menu.{menu_turn}
 use Rattle.jb_menu.specs.declared.moves.Moved.{Moved}
 use Rattle.jb_menu.specs.declared.state.State.{State}
@@ -30,3 +30,11 @@ returns-clause-here c =
     let moved : menu_turn board c.args.self.now given ≡ c.in_ok-moved.moved =
     sym (c.in_ok-moved.ensures ∙ ap (λ (s : State). menu_turn board s given) (c.replace-state.ensures.value ∙ c.self.view_is)) in
     subst (λ (m : Moved). AsksHere m.step m.state) moved (holds_everywhere board c.args.self.now given c.requires.of).here
+
+pub returns-clause-reaches : goal.returns-clause-reaches
+returns-clause-reaches c =
+    let board = c.args.board.now in
+    let given = c.args.given.now in
+    let moved : menu_turn board c.args.self.now given ≡ c.in_ok-moved.moved =
+    sym (c.in_ok-moved.ensures ∙ ap (λ (s : State). menu_turn board s given) (c.replace-state.ensures.value ∙ c.self.view_is)) in
+    subst (λ (m : Moved). Reaches board m.step) moved (holds_everywhere board c.args.self.now given c.requires.of).reaches

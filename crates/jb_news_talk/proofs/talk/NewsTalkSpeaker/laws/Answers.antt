@@ -3,12 +3,16 @@ use Rattle.std.specs.Prelude.{◌≢◌, ◌==◌, if◌then◌else◌}
 use Rattle.std.proofs.lemmas.Bool.{true≢false}
 use Rattle.jb_limits.specs.declared.limits.TheConstants.{MOST_SESSION_BYTES}
 use Rattle.jb_speech.specs.declared.end.TalkEnd.TheVariants.{Hangup, Spent, Unanswered}
+use Rattle.jb_speech.specs.declared.request.Request.{Request}
+use Rattle.jb_speech.specs.declared.request.Request.TheVariants.{Area, Clock}
+use Rattle.jb_speech.specs.Laws.{IsWithin}
 use Rattle.jb_conf.specs.declared.board.Board.{Board}
 use Rattle.jb_news.specs.Laws.{CutsOneWay, EachIsCut, LinesGrow}
 use Rattle.jb_news.specs.Reading.{HasRead}
 use Rattle.jb_speech.proofs.Speaking.{IsCutting, says_each, says_grow, says_one_way}
 use Rattle.jb_speech.proofs.Talked.{talks}
 use Rattle.jb_news_talk.specs.Conversations.{end_of, is_waiting, manner_of}
+use Rattle.jb_news_talk.specs.Reading.{IsRequestOn}
 use Rattle.jb_news_talk.specs.declared.place.NewsStage.{NewsStage}
 use Rattle.jb_news_talk.specs.declared.place.NewsStage.TheVariants as stage
 use Rattle.jb_news_talk.proofs.Turning.{not_waiting}
@@ -50,3 +54,12 @@ not_unanswered _ taken waits = absurd (true≢false waits)
 
 pub returns-clause-waits : goal.returns-clause-waits
 returns-clause-waits c = λ board talk hands. not_unanswered talk.held.place.stage talk.held.taken hands.waits
+
+-- no page is sent or taken
+none_reached : (board : Board) (request : Request) → IsRequestOn board request → IsWithin 0 request
+none_reached board (Area asked) on = tt
+none_reached board Clock on = tt
+none_reached board _ on = absurd on
+
+pub returns-clause-reaches : goal.returns-clause-reaches
+returns-clause-reaches c = λ board talk request hands. none_reached board request hands.of

@@ -1,16 +1,21 @@
-use Rattle.std.proofs.Common.{◌≡◌, ℕ, Bool, true, false, refl}
+use Rattle.std.proofs.Common.{◌≡◌, ℕ, Bool, true, false, refl, arith}
 use Rattle.std.specs.Prelude.{◌≢◌, ◌==◌, if◌then◌else◌}
 use Rattle.std.proofs.lemmas.Bool.{true≢false}
 use Rattle.jb_limits.specs.declared.limits.TheConstants.{MOST_SESSION_BYTES}
 use Rattle.jb_menu.specs.declared.moves.MenuEnd.TheVariants as menu_end
+use Rattle.jb_speech.specs.Laws.{IsWithin}
 use Rattle.jb_speech.specs.declared.end.TalkEnd.TheVariants.{Hangup, Spent, Unanswered}
+use Rattle.jb_speech.specs.declared.request.Request.{Request}
+use Rattle.jb_speech.specs.declared.request.Request.TheVariants.{Area, Clock, Send, Take}
 use Rattle.jb_talk.specs.declared.standing.Standing.{Standing}
 use Rattle.jb_talk.specs.declared.standing.Standing.TheVariants.{On, Waits, Over, Failed}
 use Rattle.jb_conf.specs.declared.board.Board.{Board}
+use Rattle.jb_menu.specs.declared.state.State.{State}
 use Rattle.jb_telnet.specs.Reading.{HasRead}
 use Rattle.jb_speech.proofs.Speaking.{IsCutting, says_each, says_grow, says_one_way}
 use Rattle.jb_speech.proofs.Talked.{talks}
 use Rattle.jb_talk.specs.Conversations.{end_of, is_waiting, manner_of}
+use Rattle.jb_talk.specs.Talking.{MayAsk}
 use Rattle.jb_talk.proofs.MoveLemmas.{not_waiting}
 use Rattle.jb_talk.proofs.talk.TalkSpeaker.laws.Goals as goal
 use Rattle.jb_telnet.specs.Laws.{CutsOneWay, EachIsCut, EventsGrow}
@@ -52,3 +57,13 @@ not_unanswered Failed taken waits = λ is. absurd (cc (is))
 
 pub returns-clause-waits : goal.returns-clause-waits
 returns-clause-waits c = λ board talk hands. not_unanswered talk.place.standing talk.taken hands.waits
+
+-- what may be asked is within the nodes of the board
+within : (board : Board) (menu : State) (request : Request) → MayAsk board menu request → IsWithin board.nodes request
+within board menu (Area request) may = tt
+within board menu Clock may = tt
+within board menu (Send to text) may = (may.1, may.2)
+within board menu Take may = omega (arith, board.in_range.nodes_least)
+
+pub returns-clause-reaches : goal.returns-clause-reaches
+returns-clause-reaches c = λ board talk request hands. within board talk.place.menu request hands.of
