@@ -54,7 +54,7 @@ def drawn_commands(draw, size):
     numbers = (b"", b"0", b"1", b"2", b"7", b"20", b"4294967295", b"4294967296", b"9" * 77, b"-1", b" 5 ")
     typed = [NAMES[n], password_of(NAMES[n]), b"1"]
     while sum(map(len, typed)) < size:
-        letter = draw.choice((b"a", b"b", b"k", b"l", b"m", b"n", b"p", b"r", b"t", b"x", b"y", b"z", b"", b"?", b"1", b"2", b".", b"!", b"All",
+        letter = draw.choice((b"a", b"b", b"g", b"k", b"l", b"m", b"n", b"p", b"r", b"s", b"t", b"x", b"y", b"z", b"", b"?", b"1", b"2", b".", b"!", b"All",
                               draw.randbytes(draw.randrange(90)).replace(b"\xff", b"")))
         typed.append(letter + draw.choice((b"", b" ")) + draw.choice(numbers))
         if letter in (b"p", b"r") and draw.randrange(2):

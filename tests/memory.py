@@ -1,6 +1,6 @@
 #!/usr/bin/env python3
 """Tries sessions of the built program in which memory is refused for good from some moment on: one has to end, with what it sent a beginning of
-what is to be sent, and what it has done goes as far. In the one a letter is answered, in the other it is edited.
+what is to be sent, and what it has done goes as far. In the one a letter is answered, in another it is edited, and in a third pages are sent and read.
 
 usage: memory.py PROGRAM
 
@@ -10,7 +10,7 @@ refuses is written in C; where there is no compiler for it, a line says so, and 
 import shutil
 
 from harness import LOCAL, Runs, goes_through, one_by_one, settings
-from visits import ANSWERED, EDIT, EDITED, FIRST, edit_goes_as_far, goes_as_far
+from visits import ANSWERED, EDIT, EDITED, FIRST, PAGED, PAGES, edit_goes_as_far, goes_as_far, pages_go_as_far
 
 # seconds in which a session has to end that waits for nobody
 MOST_SECONDS = 30
@@ -43,7 +43,11 @@ def try_edit(trial):
     try_moments(trial, EDITED, EDIT, edit_goes_as_far)
 
 
+def try_pages(trial):
+    try_moments(trial, PAGED, PAGES, pages_go_as_far)
+
+
 if __name__ == "__main__":
     if shutil.which("cc") is not None:
-        goes_through(Runs, "want of memory that lasts", (try_answer, try_edit))
+        goes_through(Runs, "want of memory that lasts", (try_answer, try_edit, try_pages))
     print("want of memory that lasts was not tried: there is no C compiler for an allocator that refuses")

@@ -23,7 +23,7 @@ import sys
 import tempfile
 
 from harness import LIMIT, LOCAL, NO_MEMORY, TOP, Runs, memory_folder, one_by_one, settings
-from visits import ANSWERED, EDITED, edit_goes_as_far, goes_as_far
+from visits import ANSWERED, EDITED, PAGED, edit_goes_as_far, goes_as_far, pages_go_as_far
 
 # that the digits of a word are no bytes is said too where there was no memory for them
 WANTING = re.compile(r"(Base\()?OutOfMemory\b|NoMemory\b|out of memory|no answer to '.*': (out of memory|word \d+ is no bytes)")
@@ -191,7 +191,7 @@ def looks_at_board(trial, words, typed, goes):
 COMMANDS = (("help",), ("list", "areas", "general"), ("check", "areas", "general"), ("make", "areas", "other"), ("pack", "areas", "general"),
             ("relink", "areas", "general"), ("load", "7", "40"))
 # what is typed in a session, and how far it goes
-SESSIONS = ((ANSWERED, goes_as_far), (EDITED, edit_goes_as_far))
+SESSIONS = ((ANSWERED, goes_as_far), (EDITED, edit_goes_as_far), (PAGED, pages_go_as_far))
 
 
 def numbers_of(words):

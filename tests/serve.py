@@ -226,12 +226,12 @@ def try_rude(trial):
     hall.compares(trial, "after rude callers", since)
 
 
-def stuffs(caller):
+def stuffs(caller, asked=b"?\n"):
     """Asks on and on without a look at the answers, until nothing more is taken."""
     caller.line.settimeout(1)
     try:
         while True:
-            caller.line.sendall(b"?\n" * 8192)
+            caller.line.sendall(asked * 8192)
     except OSError:
         return
 

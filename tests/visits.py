@@ -21,6 +21,10 @@ FIRST = START + (
 EDITED = ["Test", "abc", "1", "E 1", "abcd", "Bye", ".", "Q"]
 EDIT = START + (b"Password: Welcome, Test.\r\nTop> 1 visible, 1 unread.\r\n[general] Subject (empty keeps): Text, . ends, ! cancels\r\n"
                 b"Edited 1.\r\n[general] Goodbye.\r\n")
+# one who pages themselves, and what is sent then
+PAGED = ["Hello", "test", "S 1", "hi", "G", "G", "S 3", "Q"]
+PAGES = START + (b"Password: Welcome, Hello.\r\nTop> Page: Sent.\r\nTop> Page from node 1: hi\r\nTop> No pages.\r\nTop> No such node.\r\n"
+                 b"Top> Goodbye.\r\n")
 WRONG = START + b"Password: Login incorrect.\r\nName: " * 2 + b"Password: Login incorrect.\r\nGoodbye.\r\n"
 LISTED, LISTED_ANSWER = b"       1  Test > Hello  abc\n", b"       2  Hello > Test  Re: abc\n"
 
@@ -55,6 +59,12 @@ def edit_goes_as_far(trial, what, found, status):
     trial.is_so(f"{what}: the status of {found!r}", status, 0 if found == EDIT else 6)
     trial.holds(f"{what}: {found!r} is sent", EDIT.startswith(found))
     trial.holds(f"{what}: {found!r} is sent, and {done} done", done[0] if len(found) > edited_at else len(found) == edited_at or not done[0])
+
+
+def pages_go_as_far(trial, what, found, status):
+    """The same of pages, with which nothing is done."""
+    trial.is_so(f"{what}: the status of {found!r}", status, 0 if found == PAGES else 6)
+    trial.holds(f"{what}: {found!r} is sent", found == NO_MEMORY[0] or PAGES.startswith(found))
 
 
 class Hall:
