@@ -1,0 +1,5 @@
+pub mod AnswerLemmas
+pub mod BeginLemmas
+pub mod Callers
+pub mod CopyLemmas
+pub mod TargetLemmas
