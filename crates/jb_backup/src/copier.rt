@@ -42,12 +42,13 @@ pub struct Copier {
 impl Model for Copier {
     ghost use Rattle.std.specs.Prelude.{◌≡◌, ℕ, ◌≤◌, length};
     ghost use Rattle.jb_limits.specs.declared.limits.TheConstants.{TEXTS_CEILING};
+    ghost use Rattle.jb_backup.specs.declared.copier.TheConstants.{PART_BYTES};
 
     ghost Value = { ℕ };
 
     ghost view = { λ copier. copier.copied };
 
-    ghost invariant = { λ copier. (length copier.buffer.items ≡ 1048576) × (copier.copied ≤ TEXTS_CEILING) };
+    ghost invariant = { λ copier. (length copier.buffer.items ≡ PART_BYTES) × (copier.copied ≤ TEXTS_CEILING) };
 }
 
 impl Copier {
@@ -57,6 +58,13 @@ impl Copier {
     {
         let buffer = zeros(alloc, PART_BYTES as usize)?;
         Ok(Copier { buffer, copied: 0 })
+    }
+
+    /// How many bytes of the texts are copied.
+    pub fn copied(&self) -> u64
+        ensures { result ≡ self.now }
+    {
+        self.copied
     }
 
     /// Syncs the six files of the target, sees that each is empty, and makes its headers one byte that is not the
@@ -98,10 +106,11 @@ impl Copier {
             HasFront self.old files (E.device onto.old).contents
             → HasFront self.new files (E.device onto.new).contents)) }
 
-        // What a crash leaves, and which disk fails.
+        // What a crash leaves, which disk fails, and what is left of the source.
         ensures crash { LeavesOnly (E.device onto.old) (E.device onto.new) IsUnsigned }
         ensures answer { AnswersCopy (S.source source.old) (S.source source.new) (E.device onto.old)
             (E.device onto.new) result }
+        ensures stays { S.stays source.old source.new }
     {
         let buffer = self.buffer.as_mut_slice();
         let reached = copy_texts(source, onto, self.copied, end, buffer)?;
@@ -133,9 +142,10 @@ impl Copier {
         ensures crash { ForSome (S.source source.old).contents (λ files.
             LeavesOnly (E.device onto.old) (E.device onto.new) (IsBackupOf (backed_up files))) }
 
-        // Which disk fails.
+        // Which disk fails, and what is left of the source.
         ensures answer { AnswersCopy (S.source source.old) (S.source source.new) (E.device onto.old)
             (E.device onto.new) result }
+        ensures stays { S.stays source.old source.new }
     {
         copy_files(source, onto, self.copied, self.buffer.as_mut_slice())?;
         sign(onto)?;

@@ -55,6 +55,7 @@ pub(crate) fn copy_chunk<S: Source, E: Disk>(
     ensures others { LeavesOthers file (E.device onto.old) (E.device onto.new) }
     ensures answer { AnswersCopy (S.source source.old) (S.source source.new) (E.device onto.old)
         (E.device onto.new) result }
+    ensures stays { S.stays source.old source.new }
 {
     if source.file_read(file, at, chunk).is_err() {
         return Err(BackupError::SourceFault);
@@ -89,6 +90,7 @@ fn copy_range<S: Source, E: Disk>(
     ensures others { LeavesOthers file (E.device onto.old) (E.device onto.new) }
     ensures answer { AnswersCopy (S.source source.old) (S.source source.new) (E.device onto.old)
         (E.device onto.new) result }
+    ensures stays { S.stays source.old source.new }
 {
     let mut at = from;
     while at < end {
@@ -123,6 +125,7 @@ fn copy_file<S: Source, E: Disk>(
     ensures others { LeavesOthers file (E.device onto.old) (E.device onto.new) }
     ensures answer { AnswersCopy (S.source source.old) (S.source source.new) (E.device onto.old)
         (E.device onto.new) result }
+    ensures stays { S.stays source.old source.new }
 {
     let Ok(len) = source.file_len(file) else {
         return Err(BackupError::SourceFault);
@@ -156,6 +159,7 @@ pub(crate) fn copy_files<S: Source, E: Disk>(
     ensures unsigned { Keeps IsUnsigned (E.device onto.old) (E.device onto.new) }
     ensures answer { AnswersCopy (S.source source.old) (S.source source.new) (E.device onto.old)
         (E.device onto.new) result }
+    ensures stays { S.stays source.old source.new }
 {
     copy_file(source, onto, FileId::Jdt, copied, buffer)?;
     copy_file(source, onto, FileId::Jhr, 1, buffer)?;

@@ -24,6 +24,8 @@ impl Source for Held {
 
     ghost source = { λ held. memory_device held.0 };
 
+    ghost stays = { λ before now. Unit {0} };
+
     fn file_len(&mut self, file: FileId) -> Result<u64, DiskFailed> {
         self.0.len(file)
     }
@@ -31,6 +33,10 @@ impl Source for Held {
     fn file_read(&mut self, file: FileId, at: u64, into: &mut [u8]) -> Result<(), DiskFailed> {
         self.0.read_at(file, at, into)
     }
+
+    ghost stays_same = { λ it. tt };
+
+    ghost stays_on = { λ first middle last before after. tt };
 }
 
 fn disk(
@@ -122,7 +128,7 @@ fn a_stop_at_any_call_leaves_a_refused_base_or_the_whole_one(rt: HostRuntime) ->
     let mut onto = disk(alloc, Vec::new(alloc), b"", b"")?;
     let mut copier = Copier::new(alloc)?;
     assert_eq!(rt; copy_all(&mut copier, &mut source, &mut onto), Ok(false));
-    for after in 0..onto.calls() {
+    for after in 0..=onto.calls() {
         assert!(rt; stops_well(&onto, &source.0, after)?);
     }
     Ok(())

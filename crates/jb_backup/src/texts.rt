@@ -45,6 +45,7 @@ pub(crate) fn copy_texts<S: Source, E: Disk>(
     ensures unsigned { Keeps IsUnsigned (E.device onto.old) (E.device onto.new) }
     ensures answer { AnswersCopy (S.source source.old) (S.source source.new) (E.device onto.old)
         (E.device onto.new) result }
+    ensures stays { S.stays source.old source.new }
 {
     let Ok(len) = source.file_len(FileId::Jdt) else {
         return Err(BackupError::SourceFault);

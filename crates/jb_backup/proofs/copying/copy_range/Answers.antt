@@ -6,7 +6,7 @@ use Rattle.jb_backup.proofs.CopyLemmas.{filling_none, filling_more, filling_end,
 use Rattle.jb_backup.proofs.copying.copy_range.Goals as goal
 
 pub loop-at-init : goal.loop-at-init
-loop-at-init g c = record { size = refl; filling = filling_none _ _ c.args.file c.args.from c.args.end c.requires.order c.requires.within }
+loop-at-init g c = record { size = refl; filling = filling_none _ _ c.args.file c.args.from c.args.end c.requires.order c.requires.within; stays = g.met.S.Source.stays_same _ }
 
 pub copy_chunk-requires-clause-file : goal.copy_chunk-requires-clause-file
 copy_chunk-requires-clause-file g c = copyable_later c.args.file c.args.from c.loop-at.at c.requires.file c.loop-at.invariant.filling.low
@@ -30,6 +30,9 @@ returns-in_err-copy_chunk-clause-unsigned g c = keeps-then IsUnsigned _ _ _ c.lo
 pub returns-in_err-copy_chunk-clause-others : goal.returns-in_err-copy_chunk-clause-others
 returns-in_err-copy_chunk-clause-others g c = λ other ne least good. keeps-then (λ files. IsSameFrom least good (files other)) _ _ _ (c.loop-at.invariant.filling.others other ne least good) (c.copy_chunk.ensures.others other ne least good)
 
+pub returns-in_err-copy_chunk-clause-stays : goal.returns-in_err-copy_chunk-clause-stays
+returns-in_err-copy_chunk-clause-stays g c = g.met.S.Source.stays_on _ _ _ c.loop-at.invariant.stays c.copy_chunk.ensures.stays
+
 pub loop-at-preserved : goal.loop-at-preserved
 loop-at-preserved g c =
     let buffer = c.loop-at.invariant.size in
@@ -40,6 +43,7 @@ loop-at-preserved g c =
       size = omega (arith, length-append c.copy_chunk.new.chunk (drop c.min-count.result c.loop-at.buffer), length-drop c.min-count.result c.loop-at.buffer, long, count, buffer);
       filling = filling_more _ _ _ _ _ _ c.args.file c.args.from c.loop-at.at c.min-count.result c.args.end c.copy_chunk.new.chunk (omega (arith, count, c.loop-at-test.true)) long c.loop-at.invariant.filling
           (rw size at c.in_ok-copy_chunk.ensures.found) c.in_ok-copy_chunk.ensures.told c.copy_chunk.ensures.unsigned c.copy_chunk.ensures.others c.in_ok-copy_chunk.ensures.answer;
+      stays = g.met.S.Source.stays_on _ _ _ c.loop-at.invariant.stays c.copy_chunk.ensures.stays;
     }
 
 pub returns-clause-told : goal.returns-clause-told
