@@ -19,10 +19,19 @@ pub struct FolderDisk<R: Files<File = File> + Drop> {
 impl<R: Files<File = File> + Drop> FolderDisk<R> {
     /// The base of this name in a folder, which is the current one where its text is empty. Neither has to be there. The
     /// extensions are spelled as those of the header file that is there, upper case before lower case.
-    pub fn new(rt: R, alloc: Global, dir: &str, name: &str) -> Result<FolderDisk<R>, OpenFault>
+    ///
+    /// A base that is not there keeps others from making one in its folder. `is_beside` says that this program has other disks, so that
+    /// one of them may be what keeps the folder: then that is no hindrance, and who makes the header file first has the base.
+    pub fn new(
+        rt: R,
+        alloc: Global,
+        dir: &str,
+        name: &str,
+        is_beside: bool,
+    ) -> Result<FolderDisk<R>, OpenFault>
         ensures { IfOk result (λ disk. disk.faults ≡ 0) }
     {
-        let folder = Folder::new(rt, alloc, dir, name)?;
+        let folder = Folder::new(rt, alloc, dir, name, is_beside)?;
         Ok(FolderDisk { folder, faults: 0 })
     }
 

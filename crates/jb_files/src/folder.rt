@@ -23,11 +23,19 @@ pub(crate) struct Folder<R: Files<File = File> + Drop> {
     folder_lock: Option<File>,
     // Some call was answered while the header file was not there.
     was_absent: bool,
+    // Other disks of this program may be of the folder, and one of them may hold it.
+    is_beside: bool,
 }
 
 impl<R: Files<File = File> + Drop> Folder<R> {
     /// The files of a base, which is kept from other programs where its header file is there.
-    pub(crate) fn new(rt: R, alloc: Global, dir: &str, name: &str) -> Result<Folder<R>, OpenFault> {
+    pub(crate) fn new(
+        rt: R,
+        alloc: Global,
+        dir: &str,
+        name: &str,
+        is_beside: bool,
+    ) -> Result<Folder<R>, OpenFault> {
         let (names, base) = Names::of_base(alloc, if dir.is_empty() { "." } else { dir }, name)?;
         let files = spelling::files(&rt, alloc, &names, base)?;
         let mut folder = Folder {
@@ -37,6 +45,7 @@ impl<R: Files<File = File> + Drop> Folder<R> {
             lock: None,
             folder_lock: None,
             was_absent: false,
+            is_beside,
         };
         match folder.hold() {
             Err(error) if error.kind() == io::ErrorKind::WouldBlock => Err(OpenFault::Busy),
@@ -174,6 +183,14 @@ impl<R: Files<File = File> + Drop> Folder<R> {
         self.files[n].open_to_write(&self.rt)
     }
 
+    // The lock of the folder, which is passed over where another disk of this program may hold it.
+    fn take_folder(&self) -> io::Result<Option<File>> {
+        match lock::take_folder(&self.rt, self.names.path()) {
+            Err(error) if self.is_beside && error.kind() == io::ErrorKind::WouldBlock => Ok(None),
+            taken => taken,
+        }
+    }
+
     // Keeps other programs out: of the base, and until its header file is there from making it. What was answered before is of a base
     // that is not there, so one that another program has made since is none of this disk's.
     fn hold(&mut self) -> io::Result<()>
@@ -187,7 +204,7 @@ impl<R: Files<File = File> + Drop> Folder<R> {
         // Who makes the base holds the folder until it holds the header file, which is empty until then.
         let is_empty = self.files[0].len(&self.rt)? == 0;
         if is_empty && self.folder_lock.is_none() {
-            self.folder_lock = lock::take_folder(&self.rt, self.names.path())?;
+            self.folder_lock = self.take_folder()?;
         }
         let lock = self.files[0].lock(&self.rt)?;
         if lock.is_none() {

@@ -51,18 +51,20 @@ pub(crate) fn read_whole<R: Files<File = File>>(
     Err(ErrorKind::FileTooLarge.into())
 }
 
-/// The disk of a base. One that another program has is waited for a while, so that tools that are started together each get it.
+/// The disk of a base, beside others of this program or not. One that another program has is waited for a while, so that tools that are
+/// started together each get it.
 pub(crate) fn opened<R: Files<File = File> + time::Clock + Copy + Drop>(
     rt: R,
     alloc: Global,
     dir: &str,
     name: &str,
+    is_beside: bool,
 ) -> Result<FolderDisk<R>, OpenFault> {
     for _ in 0..BUSY_TRIES {
-        match FolderDisk::new(rt, alloc, dir, name) {
+        match FolderDisk::new(rt, alloc, dir, name, is_beside) {
             Err(OpenFault::Busy) => thread::sleep(&rt, Duration::from_millis(BUSY_MILLISECONDS)),
             answer => return answer,
         }
     }
-    FolderDisk::new(rt, alloc, dir, name)
+    FolderDisk::new(rt, alloc, dir, name, is_beside)
 }

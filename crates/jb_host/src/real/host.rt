@@ -100,7 +100,8 @@ impl<
     ghost bell_over = { λ areas minutes calls rings. rings ≡ first_rings areas minutes calls };
 
     fn disk(&mut self, dir: &str, name: &str) -> Result<FolderDisk<R>, HostError> {
-        match opened(self.rt, self.alloc, dir, name) {
+        let has_others = self.disks_out > 0;
+        match opened(self.rt, self.alloc, dir, name, has_others) {
             Ok(disk) => {
                 self.disks_out = self.disks_out.saturating_add(1);
                 Ok(disk)
@@ -111,7 +112,7 @@ impl<
                     dir,
                     name,
                     fault,
-                    has_others: self.disks_out > 0,
+                    has_others,
                 };
                 let _ = self.rt.eprintln(refused);
                 self.faults = self.faults.saturating_add(1);
