@@ -10,6 +10,7 @@ use Rattle.jb_decide.specs.Errors.{is_area_fault}
 use Rattle.jb_decide.specs.Headers.{KeepsHeaders, PacksHeaders}
 use Rattle.jb_decide.specs.Holds.{Holds}
 use Rattle.jb_decide.specs.StepOf.{ChangesNothing, IsNoPack, written_text}
+use Rattle.jb_decide.specs.Telling.{IsToldBy}
 use Rattle.jb_decide.proofs.AgreeLemmas.{headers_agree, packs_agree}
 use Rattle.jb_decide.specs.declared.error.AreaError.{AreaError}
 use Rattle.jb_decide.specs.declared.error.AreaError.TheVariants.{OutOfMemory, StoreFault}
@@ -31,10 +32,10 @@ use Rattle.jb_model.specs.declared.command.Command.{Command}
 use Rattle.jb_model.specs.declared.command.Command.TheVariants.{Edit, Post}
 use Rattle.jb_state.specs.declared.loaded.Loaded.{Loaded}
 use Rattle.jb_model.specs.declared.reply.Reply.{Reply}
-use Rattle.jb_area.specs.Area.{done_in, files_after, redo_of, HasBegun, HasMade, HasNoChange, IsCountedIn, IsDoubtful, IsResting, RestsAt}
+use Rattle.jb_area.specs.Area.{done_in, files_after, packs_in, packs_to, redo_of, HasBegun, HasMade, HasNoChange, IsCountedIn, IsDoubtful, IsResting, RestsAt}
 use Rattle.jb_area.specs.Calls.{BeginsCall, EndsCall, FailsWith, HasAnswered, HasStoppedIn, IsBegunFor, KeepsIndexFile, MeetsCall, OnlyReadsOrCopies}
 use Rattle.jb_decide.specs.Coming.{coming_of}
-use Rattle.jb_area.specs.Commits.{IsCounted, next_commit}
+use Rattle.jb_area.specs.Commits.{IsCounted, next_commit, packs_with}
 use Rattle.jb_area.specs.Holds.{Opens, OpensToEither}
 use Rattle.jb_area.specs.declared.area.OpenArea.{OpenArea}
 use Rattle.jb_area.proofs.CommitLemmas.{only_weaken}
@@ -104,7 +105,7 @@ fails_so (Err error) P Q fault doubt then = subst Q (sym fault) (then doubt)
 
 module _ {D : Type 0} (shown : D → Device) (old mid new : OpenArea D) (texts : List ℕ) (user : User) (moment : ℕ) (command : Command)
     (reads : OnlyReadsOrCopies command (shown old.disk) (shown mid.disk)) (idle : HasNoChange mid → OnlyReads (shown old.disk) (shown mid.disk)) (resting : IsResting shown old texts)
-    (loaded : mid.held ≡ old.held) (commits : mid.commits ≡ old.commits) (rules : mid.rules ≡ old.rules) (begun : IsBegunFor shown mid texts user moment command) where
+    (loaded : mid.held ≡ old.held) (commits : mid.commits ≡ old.commits) (packs : mid.packs ≡ old.packs) (rules : mid.rules ≡ old.rules) (begun : IsBegunFor shown mid texts user moment command) where
   -- but for .NDT the device is as it was
   touches : TouchesShadow (shown old.disk) (shown mid.disk)
   touches = touches_by command (shown old.disk) (shown mid.disk) reads
@@ -193,18 +194,24 @@ module _ {D : Type 0} (shown : D → Device) (old mid new : OpenArea D) (texts :
       (made was there now here Jdx (λ is. let number = ap file_number is in omega (arith, number)) ∙ ap (λ (s : Stage). done_in s (redo_of mid) was Jdx) begun.begun.stage)
       (mid_there.2 Jdx (λ is. let number = ap file_number is in omega (arith, number)))
 
+  -- the packs that it comes to
+  packs_before : packs_to mid ≡ packs_with change old.packs
+  packs_before = ap (λ (s : Stage). packs_in s mid.packs) begun.begun.stage ∙ ap (packs_with change) packs
+
   -- finished
-  answered_by : (reply : Reply) → (reply ≡ begun.reply) × RestsAt shown new begun.coming.texts begun.coming.to → HasMade shown mid new → IsCountedIn mid.stage mid.commits new.commits (shown new.disk).contents
+  answered_by : (reply : Reply) → (reply ≡ begun.reply) × RestsAt shown new begun.coming.texts begun.coming.to → HasMade shown mid new → IsCountedIn mid.stage mid.commits new.commits (shown new.disk).contents → new.packs ≡ packs_to mid
       → (HasNoChange mid → shown new.disk ≡ shown mid.disk)
       → ForSome (shown mid.disk).contents (λ files. LeavesOnly (shown mid.disk) (shown new.disk) (OpensToEither mid.held texts begun.coming))
       → HasAnswered shown old new texts user moment command reply
-  answered_by reply done made counted left crash = record {
+  answered_by reply done made counted packed left crash = record {
     coming = begun.coming;
     step = subst (λ (r : Reply). IsTold r (shown old.disk).contents → Step old.rules (state_of texts old.held) user moment command r (state_of begun.coming.texts begun.coming.to)) (sym done.0) step_before;
     rests = done.1;
     change = change;
     fits = fits_before;
     becomes = becomes_before;
+    told = subst (λ (r : Reply). IsToldBy r change) (sym done.0) begun.begun.told;
+    packs_counted = packed ∙ packs_before;
     counted = subst (λ (n : ℕ). IsCounted change n new.commits (shown new.disk).contents) commits
         (subst (λ (s : Stage). IsCountedIn s mid.commits new.commits (shown new.disk).contents) begun.begun.stage counted);
     somewhere = subst (λ (r : Reply). IsAnsweredSomewhere old.rules old.held user moment command r change) (sym done.0) somewhere_before;
@@ -217,16 +224,17 @@ module _ {D : Type 0} (shown : D → Device) (old mid new : OpenArea D) (texts :
   }
 
   -- stopped
-  stopped_by : IsDoubtful shown new texts (Some begun.coming) → ForSome (shown new.disk).contents (OpensToEither mid.held texts begun.coming) → new.held ≡ mid.held → new.commits ≡ next_commit mid.commits → (HasNoChange mid → ⊥)
+  stopped_by : IsDoubtful shown new texts (Some begun.coming) → ForSome (shown new.disk).contents (OpensToEither mid.held texts begun.coming) → new.held ≡ mid.held → new.commits ≡ next_commit mid.commits → (new.packs ≡ mid.packs) × (packs_to new ≡ packs_to mid) → (HasNoChange mid → ⊥)
       → ForSome (shown mid.disk).contents (λ files. LeavesOnly (shown mid.disk) (shown new.disk) (OpensToEither mid.held texts begun.coming))
       → HasStoppedIn shown old new texts user moment command
-  stopped_by doubt opens stays spent some crash = record {
+  stopped_by doubt opens stays spent unpacked some crash = record {
     coming = Some begun.coming;
-    change = (begun.reply, change, (λ nothing. some (begun.idle nothing).0), fits_before, becomes_before, somewhere_before, step_before);
+    change = (begun.reply, change, (λ nothing. some (begun.idle nothing).0), fits_before, becomes_before, somewhere_before, step_before, begun.begun.told, unpacked.1 ∙ packs_before);
     doubt = doubt;
     opens = λ files there. subst (λ (l : Loaded). OpensToEither l texts begun.coming files) loaded (opens files there);
     loaded = stays ∙ loaded;
     commits = spent ∙ ap next_commit commits;
+    packs = unpacked.0 ∙ packs;
     crash = crash_before crash;
   }
 
@@ -243,12 +251,12 @@ module _ {D : Type 0} (shown : D → Device) where
       → BeginsCall shown old mid user moment command began → began ≡ Ok value → EndsCall shown is_area_fault mid new result → MeetsCall shown old new user moment command result
   meets old mid new user moment command began value result begins ok ends =
       record {
-        answered = if_ok_then2 result _ _ _ ends.done (on_ok_both result _ _ ends.made ends.counted) (λ reply done made texts resting.
+        answered = if_ok_then2 result _ _ _ ends.done (on_ok_both result _ _ ends.made (on_ok_both result _ _ ends.counted ends.packs)) (λ reply done made texts resting.
             let is = ok_gives began value _ ok begins.begun texts resting in
-            answered_by shown old mid new texts user moment command begins.reads (ok_gives began value _ ok begins.idle) resting begins.loaded begins.commits begins.rules is reply (done texts is.reply is.coming is.begun) made.0 made.1 (λ none. (ends.idle none).1) (ends.crash texts is.reply is.coming is.begun));
-        failed = fails_so result _ (λ error. (texts : List ℕ) → IsResting shown old texts → FailsWith shown error old new texts user moment command) (store_fault result ends.fault) (stopped_some result _ _ _ (on_err_both result _ _ ends.doubt (on_err_both result _ _ ends.opens (on_err_both result _ _ ends.loaded ends.spent))) ends.idle) (λ stopped texts resting.
+            answered_by shown old mid new texts user moment command begins.reads (ok_gives began value _ ok begins.idle) resting begins.loaded begins.commits begins.packs begins.rules is reply (done texts is.reply is.coming is.begun) made.0 made.1.0 made.1.1 (λ none. (ends.idle none).1) (ends.crash texts is.reply is.coming is.begun));
+        failed = fails_so result _ (λ error. (texts : List ℕ) → IsResting shown old texts → FailsWith shown error old new texts user moment command) (store_fault result ends.fault) (stopped_some result _ _ _ (on_err_both result _ _ ends.doubt (on_err_both result _ _ ends.opens (on_err_both result _ _ ends.loaded (on_err_both result _ _ ends.spent ends.unpacked)))) ends.idle) (λ stopped texts resting.
             let is = ok_gives began value _ ok begins.begun texts resting in
-            stopped_by shown old mid new texts user moment command begins.reads (ok_gives began value _ ok begins.idle) resting begins.loaded begins.commits begins.rules is (stopped.0.0 texts is.reply is.coming is.begun) (stopped.0.1.0 texts is.reply is.coming is.begun) stopped.0.1.1.0 stopped.0.1.1.1 stopped.1 (ends.crash texts is.reply is.coming is.begun));
+            stopped_by shown old mid new texts user moment command begins.reads (ok_gives began value _ ok begins.idle) resting begins.loaded begins.commits begins.packs begins.rules is (stopped.0.0 texts is.reply is.coming is.begun) (stopped.0.1.0 texts is.reply is.coming is.begun) stopped.0.1.1.0 stopped.0.1.1.1.0 stopped.0.1.1.1.1 stopped.1 (ends.crash texts is.reply is.coming is.begun));
         faults = counts_behind is_area_fault (shown old.disk) (shown mid.disk) (shown new.disk) result (ok_gives began value _ ok begins.faults.quiet) ends.faults;
         alike = ends.alike ∙ alike_by (shown old.disk) (shown mid.disk) (touches_by command (shown old.disk) (shown mid.disk) begins.reads);
         rules = ends.rules ∙ begins.rules;
@@ -256,6 +264,7 @@ module _ {D : Type 0} (shown : D → Device) where
             (λ done. done ∙ ok_gives began value _ ok begins.kind in_place ∙ begins.copies in_place) (λ kept. kept ∙ begins.copies in_place);
         packed = ends.packed;
         unspent = λ wanting. absurd (false≢true (err_gives result OutOfMemory (λ error. is_area_fault error ≡ true) wanting ends.fault));
+        unpacked = λ wanting. absurd (false≢true (err_gives result OutOfMemory (λ error. is_area_fault error ≡ true) wanting ends.fault));
       }
 
   -- a call that is not begun
@@ -263,11 +272,12 @@ module _ {D : Type 0} (shown : D → Device) where
       → BeginsCall shown old new user moment command began → began ≡ Err error → MeetsCall shown old new user moment command (Err error)
   meets_not old new user moment command began error begins refused = record {
     answered = tt;
-    failed = λ texts resting. fails_with shown error old new texts user moment command begins.reads begins.loaded begins.commits resting (err_gives began error _ refused begins.failed texts resting);
+    failed = λ texts resting. fails_with shown error old new texts user moment command begins.reads begins.loaded begins.commits begins.packs resting (err_gives began error _ refused begins.failed texts resting);
     faults = record { quiet = tt; later = begins.faults.later; cause = err_gives began error _ refused begins.faults.cause };
     alike = alike_by (shown old.disk) (shown new.disk) (touches_by command (shown old.disk) (shown new.disk) begins.reads);
     rules = begins.rules;
     copies = begins.copies;
     packed = tt;
     unspent = λ wanting. begins.commits;
+    unpacked = λ wanting. begins.packs;
   }

@@ -34,9 +34,9 @@ use Rattle.jb_redo.proofs.WayLemmas.{resized_same, resized_with_zeros}
 use Rattle.jb_redo.specs.Rules.{IsLegalRecord, new_sizes, sizes_of}
 use Rattle.jb_decide.proofs.AgreeLemmas.{loads_agree}
 use Rattle.jb_decide.specs.Coming.{BringsComing, Coming}
-use Rattle.jb_decide.specs.Decided.{IsPacking}
 use Rattle.jb_decide.specs.Holds.{HoldsCopies, Holds}
 use Rattle.jb_decide.specs.StepOf.{IsNoPack}
+use Rattle.jb_decide.specs.Telling.{IsPacking}
 use Rattle.jb_area.specs.Area.{copied_after}
 use Rattle.jb_area.specs.Calls.{OnlyReadsOrCopies}
 use Rattle.jb_area.specs.Commits.{IsCopyingAs, IsSettledAs, IsSyncedButShadow}

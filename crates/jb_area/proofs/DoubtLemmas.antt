@@ -226,12 +226,12 @@ module _ {D : Type 0} (shown : D → Device) (area : OpenArea D) (stopped : Stop
       }
 
       -- settled with the change
-      pub stands : (disk : D) (held : Loaded) (large : Option RedoView) (packer : Option Shadow) (stage : Stage) → large ≡ None → packer ≡ None → stage ≡ Resting → held ≡ after pending.change area.held
+      pub stands : (disk : D) (packs : ℕ) (held : Loaded) (large : Option RedoView) (packer : Option Shadow) (stage : Stage) → large ≡ None → packer ≡ None → stage ≡ Resting → held ≡ after pending.change area.held
           → ((from : Loaded) (texts : List ℕ) (copies : Option Shadow) (coming : Coming) → IsStoppedAs stopped redo from texts copies (shown area.disk) → IsChange (shown area.disk).contents redo from texts copies coming → IsAnsweredAs true from texts coming (shown disk))
           → (texts : List ℕ) (coming : Option Coming) → IsDoubtful shown area texts coming
-          → SettlesAt shown true area.held texts coming (record area { disk = disk; held = held; large = large; packer = packer; stage = stage })
-      stands disk held large packer stage small none resting applied answer texts None doubt = no_none texts doubt
-      stands disk held large packer stage small none resting applied answer texts (Some coming) doubt =
+          → SettlesAt shown true area.held texts coming (record area { disk = disk; packs = packs; held = held; large = large; packer = packer; stage = stage })
+      stands disk packs held large packer stage small none resting applied answer texts None doubt = no_none texts doubt
+      stands disk packs held large packer stage small none resting applied answer texts (Some coming) doubt =
           let change = change_in texts coming doubt in
           let to : coming.to ≡ held = change.becomes ∙ sym applied in
           record {

@@ -1,3 +1,4 @@
+pub mod BackupLemmas
 pub mod BegunLemmas
 pub mod CallLemmas
 mod CommitLemmas
@@ -8,6 +9,7 @@ pub mod HoldLemmas
 mod MeasureLemmas
 mod Outcomes
 mod PackedLemmas
+pub mod ReadingLemmas
 mod StageLemmas
 mod StartLemmas
 mod StepLemmas

@@ -1,12 +1,15 @@
 -- What is kept of the copies of texts, by what is pending; and the record of a pack.
-use Rattle.std.proofs.Common.{◌≡◌, ◌+◌, ◌*◌, ◌≤◌, length, Option, None, Result, Ok, Err, OnErr, OnOk, refl}
+use Rattle.std.proofs.Common.{◌≡◌, ◌+◌, ◌*◌, ◌≤◌, length, Option, None, Result, Ok, Err, OnErr, OnOk, refl, subst}
 use Rattle.jb_disk.specs.RedoView.{RedoView}
 use Rattle.jb_state.specs.declared.change.Change.{Change}
 use Rattle.jb_state.specs.declared.change.Change.TheVariants.{Nothing, Posted, Headed, Edited, Killed, Relinked, Marked, Packed}
 use Rattle.jb_state.specs.declared.loaded.Loaded.{Loaded}
 use Rattle.jb_pack.specs.Shadow.{Shadow}
 use Rattle.jb_redo.specs.Changes.{record_size}
-use Rattle.jb_decide.specs.Decided.{HasShortRecord, IsPacking}
+use Rattle.jb_model.specs.declared.reply.Reply.{Reply}
+use Rattle.jb_decide.specs.Decided.{HasShortRecord}
+use Rattle.jb_decide.specs.Packs.{IsPacked}
+use Rattle.jb_decide.specs.Telling.{IsPacking, IsToldBy}
 use Rattle.jb_area.specs.Area.{copied_after}
 
 -- where no pack is pending the copies stay
@@ -42,6 +45,10 @@ short_record (Killed place) redo to packing short = absurd packing
 short_record (Relinked plan) redo to packing short = absurd packing
 short_record (Marked place mark) redo to packing short = absurd packing
 short_record (Packed plan base) redo to packing short = short
+
+-- a reply that says that the area was packed tells of a pack
+pub packing_told : (reply : Reply) (change : Change) → IsToldBy reply change → IsPacked reply → IsPacking change
+packing_told reply change told packed = subst (λ (r : Reply). IsToldBy r change) packed.is told
 
 -- what follows whatever is answered
 pub on_either : {T E : Type 0} (result : Result T E) (P Q R : Type 0) → OnOk result P → OnErr result Q → (P → R) → (Q → R) → R

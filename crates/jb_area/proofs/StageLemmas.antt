@@ -15,9 +15,10 @@ use Rattle.jb_disk.specs.Files.{Files}
 use Rattle.jb_journal.specs.Commit.{AgreeButJournal}
 use Rattle.jb_redo.specs.Changes.{changed}
 use Rattle.jb_decide.proofs.DecidedLemmas.{fits_under, keeps_texts, sound_under}
-use Rattle.jb_decide.specs.Decided.{IsNoChange, IsPacking, IsPending, made}
+use Rattle.jb_decide.specs.Decided.{IsNoChange, IsPending, made}
 use Rattle.jb_decide.specs.Holds.{HoldsCopies}
 use Rattle.jb_decide.specs.Packs.{IsPacked}
+use Rattle.jb_decide.specs.Telling.{IsPacking}
 use Rattle.jb_area.specs.Area.{IsCountedIn, copied_after, done_in, copies_kept, redo_in, redo_of, HasMade, HasNoChange, IsBegun, IsBetween, RestsAt}
 use Rattle.jb_decide.specs.Coming.{coming_of}
 use Rattle.jb_area.specs.Commits.{IsCounted, IsNumbered, IsRecorded, IsSettledAs, IsSettledWith, IsStoppedAs, MayCommit, next_commit}
@@ -31,7 +32,7 @@ use Rattle.jb_state.specs.declared.change.Change.TheVariants.{Nothing, Posted, H
 use Rattle.jb_area.specs.declared.area.OpenArea.{OpenArea}
 use Rattle.jb_area.proofs.CommitLemmas.{some-same, told_before}
 use Rattle.jb_area.proofs.CopyingLemmas.{after_has}
-use Rattle.jb_area.proofs.PackedLemmas.{short_record}
+use Rattle.jb_area.proofs.PackedLemmas.{packing_told, short_record}
 use Rattle.jb_area.specs.declared.stage.Stage.{Stage}
 use Rattle.jb_area.specs.declared.stage.Stage.TheVariants.{Resting, Begun, Doubtful}
 
@@ -145,10 +146,10 @@ module _ {D : Type 0} (shown : D → Device) (area : OpenArea D) (reply : Reply)
       (counted_by pending.change area.commits now contents some next (λ files there. numbered_as now redo files (recorded files there)))
 
   -- and one with a change does it
-  pub made_change : (disk : D) (commits : ℕ) (held : Loaded) (large : Option RedoView) (packer : Option Shadow) (stage : Stage) (redo : RedoView) → redo ≡ redo_of area → pending.change ≢ Nothing
+  pub made_change : (disk : D) (commits packs : ℕ) (held : Loaded) (large : Option RedoView) (packer : Option Shadow) (stage : Stage) (redo : RedoView) → redo ≡ redo_of area → pending.change ≢ Nothing
       → ForSome (shown area.disk).contents (λ was. ForSome (shown disk).contents (λ now. AgreeButJournal now (changed redo was)))
-      → HasMade shown area (record area { disk = disk; commits = commits; held = held; large = large; packer = packer; stage = stage })
-  made_change disk commits held large packer stage redo used some agree was there now here = λ file ne.
+      → HasMade shown area (record area { disk = disk; commits = commits; packs = packs; held = held; large = large; packer = packer; stage = stage })
+  made_change disk commits packs held large packer stage redo used some agree was there now here = λ file ne.
       agree was there now here file ne ∙ ap (λ (r : RedoView). changed r was file) used
       ∙ sym (ap (λ (s : Stage). done_in s (redo_of area) was file) is ∙ ap (λ (f : Files). f file) (some_made pending.change (redo_of area) was some))
 
@@ -201,7 +202,7 @@ module _ {D : Type 0} (shown : D → Device) where
 
     -- where a pack is answered one is pending
     pub packing_is : (reply : Reply) (pending : Pending) → area.stage ≡ Begun reply pending → IsPacked reply → IsPacking pending.change
-    packing_is reply pending is packed = subst (λ (p : Pending). IsPacking p.change) (pending_is reply pending is) (begun.packing (subst IsPacked (reply_is reply pending is) packed))
+    packing_is reply pending is packed = subst (λ (p : Pending). IsPacking p.change) (pending_is reply pending is) (packing_told decided begun.pending.change begun.told (subst IsPacked (reply_is reply pending is) packed))
 
     -- a call without a change is finished
     pub rests_unchanged : (reply : Reply) (pending : Pending) (large : Option RedoView) (stage : Stage) → area.stage ≡ Begun reply pending → pending.change ≡ Nothing → large ≡ None → stage ≡ Resting
@@ -218,13 +219,13 @@ module _ {D : Type 0} (shown : D → Device) where
     settled_with = record { settled = begun.kept.settled; has = begun.kept.copies }
 
     -- and a call with one
-    pub rests_changed : (reply : Reply) (pending : Pending) (disk : D) (commits : ℕ) (held : Loaded) (large : Option RedoView) (packer : Option Shadow) (stage : Stage) (redo : RedoView) → redo ≡ redo_of area → area.stage ≡ Begun reply pending → pending.change ≢ Nothing
+    pub rests_changed : (reply : Reply) (pending : Pending) (disk : D) (commits packs : ℕ) (held : Loaded) (large : Option RedoView) (packer : Option Shadow) (stage : Stage) (redo : RedoView) → redo ≡ redo_of area → area.stage ≡ Begun reply pending → pending.change ≢ Nothing
         → large ≡ None → packer ≡ copied_after pending.change area.packer → stage ≡ Resting
         → held ≡ after pending.change area.held → TellsAlike (shown area.disk) (shown disk)
         → ForSome (shown area.disk).contents (λ was. ForSome (shown disk).contents (λ now. AgreeButJournal now (changed redo was)))
         → ((from : Loaded) (texts : List ℕ) (copies : Option Shadow) (coming : Coming) → IsSettledWith from texts copies (shown area.disk) → IsChange (shown area.disk).contents redo from texts copies coming → IsSettledAs coming.to coming.texts (shown disk))
-        → (reply ≡ decided) × RestsAt shown (record area { disk = disk; commits = commits; held = held; large = large; packer = packer; stage = stage }) coming.texts coming.to
-    rests_changed reply pending disk commits held large packer stage redo used is some small copied resting applied alike made done =
+        → (reply ≡ decided) × RestsAt shown (record area { disk = disk; commits = commits; packs = packs; held = held; large = large; packer = packer; stage = stage }) coming.texts coming.to
+    rests_changed reply pending disk commits packs held large packer stage redo used is some small copied resting applied alike made done =
         let change = some_in reply pending redo used is some in
         let to : coming.to ≡ held = change.becomes ∙ sym applied in
         let settled : IsSettledAs coming.to coming.texts (shown disk) = done area.held texts area.packer coming settled_with change.change in (

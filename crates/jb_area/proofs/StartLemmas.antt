@@ -1,5 +1,5 @@
 -- What the beginning of a call leaves.
-use Rattle.std.proofs.Common.{◌≡◌, ◌⊎◌, inl, ℕ, List, Option, None, Some, Result, Ok, Err, IfOk, IfErr, OnOk, IsOk, ap, sym, refl, ◌∙◌, subst}
+use Rattle.std.proofs.Common.{◌≡◌, ◌⊎◌, inl, inr, ℕ, List, Option, None, Some, Result, Ok, Err, IfOk, IfErr, OnOk, IsOk, ap, sym, refl, ◌∙◌, subst}
 use Rattle.std.specs.Option.{ForSome}
 use Rattle.std.specs.Prelude.{replicate}
 use Rattle.std.proofs.lemmas.List.{length-replicate}
@@ -31,7 +31,7 @@ use Rattle.jb_state.specs.declared.change.Change.{Change}
 use Rattle.jb_state.specs.declared.change.Change.TheVariants.{Nothing}
 use Rattle.jb_model.specs.declared.command.Command.{Command}
 use Rattle.jb_state.specs.declared.loaded.Loaded.{Loaded}
-use Rattle.jb_area.specs.Area.{copies_after, copies_kept, redo_in, HasNoChange, IsDoubtful, IsHeldByFiles, IsResting, RestsAt}
+use Rattle.jb_area.specs.Area.{copies_after, copies_kept, packs_in, packs_to, redo_in, HasNoChange, IsDoubtful, IsHeldByFiles, IsResting, RestsAt}
 use Rattle.jb_area.specs.Calls.{AnswersAs, BeginsCall, BeginsReading, FailsWith, HasRest, HasStoppedIn, IsBegunFor, IsNotBegun, OnlyReadsOrCopies, StartsAs, large_after}
 use Rattle.jb_area.specs.Commits.{IsSettledAs}
 use Rattle.jb_area.specs.Holds.{IsAtRest, Opens}
@@ -116,31 +116,33 @@ module _ {D : Type 0} (shown : D → Device) where
     alike = reads_alike (shown old.disk) (shown new.disk) begins.reads;
     loaded = begins.loaded;
     commits = begins.commits;
+    packs = begins.packs;
     rules = begins.rules;
     copies = λ in_place. begins.copies;
     kind = begins.kind;
   }
 
   -- an area, from its parts
-  rebuilt : (P : OpenArea D → Type 0) (new : OpenArea D) (disk : D) (rules : AreaRules) (held : Loaded) (redo : RedoView) (commits : ℕ) (large : Option RedoView) (packer : Option Shadow) (stage : Stage) → new.disk ≡ disk → new.rules ≡ rules
-      → new.held ≡ held → new.redo ≡ redo → new.commits ≡ commits → new.large ≡ large → new.packer ≡ packer → new.stage ≡ stage
-      → P (record { disk = disk; rules = rules; held = held; redo = redo; commits = commits; large = large; packer = packer; stage = stage }) → P new
-  rebuilt P new disk rules held redo commits large packer stage is_disk is_rules is_held is_redo is_commits is_large is_packer is_stage p =
-      subst (λ (s : Stage). P (record { disk = new.disk; rules = new.rules; held = new.held; redo = new.redo; commits = new.commits; large = new.large; packer = new.packer; stage = s })) (sym is_stage)
-      (subst (λ (k : Option Shadow). P (record { disk = new.disk; rules = new.rules; held = new.held; redo = new.redo; commits = new.commits; large = new.large; packer = k; stage = stage })) (sym is_packer)
-      (subst (λ (l : Option RedoView). P (record { disk = new.disk; rules = new.rules; held = new.held; redo = new.redo; commits = new.commits; large = l; packer = packer; stage = stage })) (sym is_large)
-      (subst (λ (n : ℕ). P (record { disk = new.disk; rules = new.rules; held = new.held; redo = new.redo; commits = n; large = large; packer = packer; stage = stage })) (sym is_commits)
-      (subst (λ (r : RedoView). P (record { disk = new.disk; rules = new.rules; held = new.held; redo = r; commits = commits; large = large; packer = packer; stage = stage })) (sym is_redo)
-      (subst (λ (h : Loaded). P (record { disk = new.disk; rules = new.rules; held = h; redo = redo; commits = commits; large = large; packer = packer; stage = stage })) (sym is_held)
-      (subst (λ (u : AreaRules). P (record { disk = new.disk; rules = u; held = held; redo = redo; commits = commits; large = large; packer = packer; stage = stage })) (sym is_rules)
-      (subst (λ (d : D). P (record { disk = d; rules = rules; held = held; redo = redo; commits = commits; large = large; packer = packer; stage = stage })) (sym is_disk) p)))))))
+  rebuilt : (P : OpenArea D → Type 0) (new : OpenArea D) (disk : D) (rules : AreaRules) (held : Loaded) (redo : RedoView) (commits packs : ℕ) (large : Option RedoView) (packer : Option Shadow) (stage : Stage) → new.disk ≡ disk → new.rules ≡ rules
+      → new.held ≡ held → new.redo ≡ redo → new.commits ≡ commits → new.packs ≡ packs → new.large ≡ large → new.packer ≡ packer → new.stage ≡ stage
+      → P (record { disk = disk; rules = rules; held = held; redo = redo; commits = commits; packs = packs; large = large; packer = packer; stage = stage }) → P new
+  rebuilt P new disk rules held redo commits packs large packer stage is_disk is_rules is_held is_redo is_commits is_packs is_large is_packer is_stage p =
+      subst (λ (s : Stage). P (record { disk = new.disk; rules = new.rules; held = new.held; redo = new.redo; commits = new.commits; packs = new.packs; large = new.large; packer = new.packer; stage = s })) (sym is_stage)
+      (subst (λ (k : Option Shadow). P (record { disk = new.disk; rules = new.rules; held = new.held; redo = new.redo; commits = new.commits; packs = new.packs; large = new.large; packer = k; stage = stage })) (sym is_packer)
+      (subst (λ (l : Option RedoView). P (record { disk = new.disk; rules = new.rules; held = new.held; redo = new.redo; commits = new.commits; packs = new.packs; large = l; packer = packer; stage = stage })) (sym is_large)
+      (subst (λ (n : ℕ). P (record { disk = new.disk; rules = new.rules; held = new.held; redo = new.redo; commits = new.commits; packs = n; large = large; packer = packer; stage = stage })) (sym is_packs)
+      (subst (λ (n : ℕ). P (record { disk = new.disk; rules = new.rules; held = new.held; redo = new.redo; commits = n; packs = packs; large = large; packer = packer; stage = stage })) (sym is_commits)
+      (subst (λ (r : RedoView). P (record { disk = new.disk; rules = new.rules; held = new.held; redo = r; commits = commits; packs = packs; large = large; packer = packer; stage = stage })) (sym is_redo)
+      (subst (λ (h : Loaded). P (record { disk = new.disk; rules = new.rules; held = h; redo = redo; commits = commits; packs = packs; large = large; packer = packer; stage = stage })) (sym is_held)
+      (subst (λ (u : AreaRules). P (record { disk = new.disk; rules = u; held = held; redo = redo; commits = commits; packs = packs; large = large; packer = packer; stage = stage })) (sym is_rules)
+      (subst (λ (d : D). P (record { disk = d; rules = rules; held = held; redo = redo; commits = commits; packs = packs; large = large; packer = packer; stage = stage })) (sym is_disk) p))))))))
 
   module _ (area new : OpenArea D) (disk : D) (redo : RedoView) (given : Option RedoView) (is_disk : new.disk ≡ disk) (is_rules : new.rules ≡ area.rules) (is_held : new.held ≡ area.held) (is_redo : new.redo ≡ redo)
-      (is_packer : new.packer ≡ area.packer) (is_commits : new.commits ≡ area.commits)
+      (is_packer : new.packer ≡ area.packer) (is_commits : new.commits ≡ area.commits) (is_packs : new.packs ≡ area.packs)
       (reads : OnlyReads (shown area.disk) (shown disk)) (room : HasRoomInAll redo) where
     -- what is kept stays so
     kept_read : (large : Option RedoView) (stage : Stage) (texts : List ℕ) → IsHeldByFiles shown area texts
-        → IsHeldByFiles shown (record { disk = disk; rules = area.rules; held = area.held; redo = redo; commits = area.commits; large = large; packer = area.packer; stage = stage }) texts
+        → IsHeldByFiles shown (record { disk = disk; rules = area.rules; held = area.held; redo = redo; commits = area.commits; packs = area.packs; large = large; packer = area.packer; stage = stage }) texts
     kept_read large stage texts kept = record {
       ruled = record { few_slots = kept.ruled.few_slots; address = kept.ruled.address; sound = kept.ruled.sound; sized = kept.ruled.sized; room = room };
       settled = settled_read area.held texts (shown area.disk) (shown disk) reads kept.settled;
@@ -158,7 +160,7 @@ module _ {D : Type 0} (shown : D → Device) where
         → OnOk result ((texts : List ℕ) → IsResting shown area texts → IsBegunFor shown new texts user moment command)
     starts (Ok decided) (Ok done) user moment command stage is_large answer is = λ texts resting.
         let decides = is texts (texts_own area texts resting) in
-        rebuilt (λ (a : OpenArea D). IsBegunFor shown a texts user moment command) new disk area.rules area.held redo area.commits given area.packer (Begun decided.reply decided.pending) is_disk is_rules is_held is_redo is_commits is_large is_packer stage
+        rebuilt (λ (a : OpenArea D). IsBegunFor shown a texts user moment command) new disk area.rules area.held redo area.commits area.packs given area.packer (Begun decided.reply decided.pending) is_disk is_rules is_held is_redo is_commits is_packs is_large is_packer stage
         (record {
           reply = decided.reply;
           coming = decides.coming;
@@ -169,7 +171,7 @@ module _ {D : Type 0} (shown : D → Device) where
             kept = kept_read given (Begun decided.reply decided.pending) texts resting.kept;
             change = subst (Changes decided.pending.change (written_text command) texts decides.coming) (sym reads.contents) decides.change;
             room = decides.room;
-            packing = decides.packing;
+            told = decides.told;
           };
           text = refl;
           step = λ told. decides.step (subst (λ (o : Option Files). IsTold decided.reply o) reads.contents told);
@@ -199,10 +201,10 @@ module _ {D : Type 0} (shown : D → Device) where
     starts_not (Ok decided) (Err error) stage is_large answer = let refused : Result (Unit {0}) AreaError = Err error in absurd (err_not_ok refused error refl answer)
     starts_not (Err StoreFault) (Err StoreFault) stage is_large answer = λ texts resting.
         let pending : Pending = record { change = Nothing; room = no_room } in
-        rebuilt (λ (a : OpenArea D). IsDoubtful shown a texts None) new disk area.rules area.held redo area.commits area.large area.packer (Doubtful Early pending) is_disk is_rules is_held is_redo is_commits is_large is_packer stage
+        rebuilt (λ (a : OpenArea D). IsDoubtful shown a texts None) new disk area.rules area.held redo area.commits area.packs area.large area.packer (Doubtful Early pending) is_disk is_rules is_held is_redo is_commits is_packs is_large is_packer stage
         (inl (record { stage = refl; kept = kept_read area.large (Doubtful Early pending) texts resting.kept }))
     starts_not (Err OutOfMemory) (Err OutOfMemory) stage is_large answer = λ texts resting.
-        rebuilt (λ (a : OpenArea D). RestsAt shown a texts area.held) new disk area.rules area.held redo area.commits area.large area.packer Resting is_disk is_rules is_held is_redo is_commits is_large is_packer (stage ∙ resting.stage)
+        rebuilt (λ (a : OpenArea D). RestsAt shown a texts area.held) new disk area.rules area.held redo area.commits area.packs area.large area.packer Resting is_disk is_rules is_held is_redo is_commits is_packs is_large is_packer (stage ∙ resting.stage)
         (record { rests = record { stage = refl; small = resting.small; kept = kept_read area.large Resting texts resting.kept }; is = refl })
     starts_not (Err StoreFault) (Err OutOfMemory) stage is_large answer = absurd (two_causes (sym (same_error (Err OutOfMemory) OutOfMemory StoreFault refl answer)))
     starts_not (Err OutOfMemory) (Err StoreFault) stage is_large answer = absurd (two_causes (same_error (Err StoreFault) StoreFault OutOfMemory refl answer))
@@ -231,6 +233,7 @@ module _ {D : Type 0} (shown : D → Device) where
       reads = subst (λ (d : D). OnlyReads (shown area.disk) (shown d)) (sym is_disk) reads;
       loaded = is_held;
       commits = is_commits;
+      packs = is_packs;
       rules = is_rules;
       copies = is_packer;
       kind = stays decided result user moment command stage answer is has;
@@ -245,22 +248,28 @@ module _ {D : Type 0} (shown : D → Device) where
         begins_call area new user moment command result (begins_with decided result user moment command stage is_large answer
         (if_ok_then decided _ _ is (λ one is texts are. with_copies area.rules area.held texts (shown area.disk).contents area.packer (redo_in given redo) user moment command one (is texts are))) counts has)
 
+  -- in a doubt without a change no pack is counted
+  packs_unchanged : (area : OpenArea D) (texts : List ℕ) → IsDoubtful shown area texts None → packs_to area ≡ area.packs
+  packs_unchanged area texts (inl unchanged) = ap (λ (s : Stage). packs_in s area.packs) unchanged.stage
+  packs_unchanged area texts (inr half) = ap (λ (s : Stage). packs_in s area.packs) half.stage
+
   -- a call that changed nothing was stopped
-  pub stopped_unchanged : (old new : OpenArea D) (texts : List ℕ) (user : User) (moment : ℕ) (command : Command) → TouchesShadow (shown old.disk) (shown new.disk) → new.held ≡ old.held → new.commits ≡ old.commits → IsResting shown old texts
+  pub stopped_unchanged : (old new : OpenArea D) (texts : List ℕ) (user : User) (moment : ℕ) (command : Command) → TouchesShadow (shown old.disk) (shown new.disk) → new.held ≡ old.held → new.commits ≡ old.commits → new.packs ≡ old.packs → IsResting shown old texts
       → IsDoubtful shown new texts None → HasStoppedIn shown old new texts user moment command
-  stopped_unchanged old new texts user moment command touches loaded commits resting doubt = record {
+  stopped_unchanged old new texts user moment command touches loaded commits packs resting doubt = record {
     coming = None;
-    change = tt;
+    change = packs_unchanged new texts doubt ∙ packs;
     doubt = doubt;
     opens = λ files there. subst (λ (l : Loaded). Opens l texts files) loaded (doubt_reads shown new texts None doubt files there);
     loaded = loaded;
     commits = commits;
+    packs = packs;
     crash = crash_by old.held texts (shown old.disk) (shown new.disk) touches (settled_copying old.held texts (shown old.disk) resting.kept.settled);
   }
 
   -- why a call was not begun, as what it leaves
-  pub fails_with : (error : AreaError) (old new : OpenArea D) (texts : List ℕ) (user : User) (moment : ℕ) (command : Command) → OnlyReadsOrCopies command (shown old.disk) (shown new.disk) → new.held ≡ old.held → new.commits ≡ old.commits → IsResting shown old texts
+  pub fails_with : (error : AreaError) (old new : OpenArea D) (texts : List ℕ) (user : User) (moment : ℕ) (command : Command) → OnlyReadsOrCopies command (shown old.disk) (shown new.disk) → new.held ≡ old.held → new.commits ≡ old.commits → new.packs ≡ old.packs → IsResting shown old texts
       → IsNotBegun shown error old new texts → FailsWith shown error old new texts user moment command
-  fails_with StoreFault old new texts user moment command reads loaded commits resting not =
-      stopped_unchanged old new texts user moment command (touches_by command (shown old.disk) (shown new.disk) reads) loaded commits resting not
-  fails_with OutOfMemory old new texts user moment command reads loaded commits resting not = (not, reads)
+  fails_with StoreFault old new texts user moment command reads loaded commits packs resting not =
+      stopped_unchanged old new texts user moment command (touches_by command (shown old.disk) (shown new.disk) reads) loaded commits packs resting not
+  fails_with OutOfMemory old new texts user moment command reads loaded commits packs resting not = (not, reads)

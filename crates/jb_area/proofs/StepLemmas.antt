@@ -105,6 +105,7 @@ module _ {D : Type 0} (shown : D → Device) where
       alike = alike_by (shown old.disk) (shown disk) touches;
       loaded = refl;
       commits = refl;
+      packs = refl;
       rules = refl;
       room = refl;
     }
@@ -135,6 +136,7 @@ module _ {D : Type 0} (shown : D → Device) where
     alike = refl;
     loaded = refl;
     commits = refl;
+    packs = refl;
     rules = refl;
     room = refl;
   }
@@ -169,6 +171,7 @@ module _ {D : Type 0} (shown : D → Device) where
         alike = two.alike ∙ one.alike;
         loaded = two.loaded ∙ one.loaded;
         commits = two.commits ∙ one.commits;
+        packs = two.packs ∙ one.packs;
         rules = two.rules ∙ one.rules;
         room = two.room ∙ one.room;
       }
@@ -198,6 +201,7 @@ module _ {D : Type 0} (shown : D → Device) where
         alike = reads_alike (shown mid.disk) (shown new.disk) begins.reads ∙ steps.alike;
         loaded = begins.loaded ∙ steps.loaded;
         commits = begins.commits ∙ steps.commits;
+        packs = begins.packs ∙ steps.packs;
         rules = begins.rules ∙ steps.rules;
         copies = λ in_place. absurd in_place;
         kind = on_ok_then result _ _ some (λ change in_place. absurd in_place);
@@ -223,6 +227,7 @@ module _ {D : Type 0} (shown : D → Device) where
     alike = steps.alike;
     loaded = steps.loaded;
     commits = steps.commits;
+    packs = steps.packs;
     rules = steps.rules;
     copies = λ in_place. absurd in_place;
     kind = tt;

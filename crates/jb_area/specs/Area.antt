@@ -5,9 +5,9 @@ use Rattle.jb_base.specs.declared.area.AreaRules.{AreaRules}
 use Rattle.jb_limits.specs.declared.limits.TheConstants.{MOST_ADDRESS_BYTES, MOST_SLOTS}
 use Rattle.jb_change.specs.Ready.{HasRoomInAll}
 use Rattle.jb_decide.specs.Coming.{Coming}
-use Rattle.jb_decide.specs.Decided.{IsNoChange, IsPacking, IsPending, made}
+use Rattle.jb_decide.specs.Decided.{IsNoChange, IsPending, made}
 use Rattle.jb_decide.specs.Holds.{HoldsCopies}
-use Rattle.jb_decide.specs.Packs.{IsPacked}
+use Rattle.jb_decide.specs.Telling.{IsToldBy}
 use Rattle.jb_disk.specs.RedoView.{RedoView}
 use Rattle.jb_disk.specs.Device.{Device}
 use Rattle.jb_disk.specs.Files.{Files}
@@ -22,7 +22,7 @@ use Rattle.jb_state.specs.declared.change.Change.TheVariants.{Nothing, Packed}
 use Rattle.jb_state.specs.declared.loaded.Loaded.{Loaded}
 use Rattle.jb_model.specs.declared.reply.Reply.{Reply}
 use Rattle.jb_pack.specs.Shadow.{Shadow}
-use Rattle.jb_area.specs.Commits.{IsCopyingAs, IsCounted, IsSettledAs, IsStoppedAs, next_commit}
+use Rattle.jb_area.specs.Commits.{IsCopyingAs, IsCounted, IsSettledAs, IsStoppedAs, next_commit, packs_with}
 use Rattle.jb_area.specs.Holds.{HasShortJournal, Opens, OpensToEither}
 use Rattle.jb_area.specs.declared.area.OpenArea.{OpenArea}
 use Rattle.jb_area.specs.declared.stage.Stage.{Stage}
@@ -64,6 +64,13 @@ abbrev pub commits_with : Option Coming → ℕ → ℕ
 commits_with None commits = commits
 commits_with (Some coming) commits = next_commit commits
 
+-- the count of packs, once what is begun or in doubt stands
+abbrev pub packs_in : Stage → ℕ → ℕ
+packs_in Resting packs = packs
+packs_in (Begun reply pending) packs = packs_with pending.change packs
+packs_in (Doubtful stopped pending) packs = packs_with pending.change packs
+packs_in Copying packs = packs
+
 -- where the call was stopped that is in doubt; a copying of texts is stopped early
 abbrev pub stopped_in : Stage → Stopped
 stopped_in Resting = Early
@@ -87,6 +94,14 @@ module _ {D : Type 0} where
   -- the number of its last commit, also where that was stopped; 0 before the first
   abbrev pub commits_of : OpenArea D → ℕ
   commits_of area = area.commits
+
+  -- the number of packs since it was opened, at most the last count
+  abbrev pub packs_of : OpenArea D → ℕ
+  packs_of area = area.packs
+
+  -- that which it has once what is begun or in doubt stands
+  abbrev pub packs_to : OpenArea D → ℕ
+  packs_to area = packs_in area.stage area.packs
 
   -- the redo of the call that is begun or in doubt
   abbrev pub redo_of : OpenArea D → RedoView
@@ -141,8 +156,8 @@ module _ {D : Type 0} (shown : D → Device) where
     pub small : area.large ≡ None
     pub kept : IsHeldByFiles area texts
 
-  -- a call is begun that will be answered so, and this is to come of it; a post or an edit has this text, and it packs the area where
-  -- the answer says so
+  -- a call is begun that will be answered so, and this is to come of it; a post or an edit has this text, and the answer tells
+  -- whether it writes one, or packs the area
   pub record IsBegun (area : OpenArea D) (texts : List ℕ) (reply : Reply) (coming : Coming) : Type 0 where
     pub posted : List ℕ
     pub pending : Pending
@@ -151,7 +166,7 @@ module _ {D : Type 0} (shown : D → Device) where
     pub change : IsNoChange pending.change area.held texts coming
         ⊎ IsPending area.rules.slots (shown area.disk).contents area.packer (redo_of area) pending.change area.held posted texts coming
     pub room : BringsRoom pending.change pending.room area.held
-    pub packing : IsPacked reply → IsPacking pending.change
+    pub told : IsToldBy reply pending.change
 
   -- the files are those that they were with what was begun done in them, but for the journal
   abbrev pub HasMade : OpenArea D → OpenArea D → Type 0

@@ -10,6 +10,7 @@ use Rattle.jb_decide.specs.Headers.{KeepsHeaders, PacksHeaders}
 use Rattle.jb_decide.specs.Holds.{HoldsWith}
 use Rattle.jb_decide.specs.Packs.{IsPacked}
 use Rattle.jb_decide.specs.StepOf.{ChangesNothing, IsNoPack, written_text}
+use Rattle.jb_decide.specs.Telling.{IsToldBy}
 use Rattle.jb_decide.specs.declared.decided.Decided.{Decided}
 use Rattle.jb_decide.specs.declared.error.AreaError.{AreaError}
 use Rattle.jb_decide.specs.declared.error.AreaError.TheVariants.{StoreFault, OutOfMemory}
@@ -30,8 +31,8 @@ use Rattle.jb_model.specs.declared.command.Command.{Command}
 use Rattle.jb_model.specs.declared.command.Command.TheVariants.{Post, Edit, Read, Peek, Kill, SetMark, Pack, Relink}
 use Rattle.jb_model.specs.declared.reply.Reply.{Reply}
 use Rattle.jb_pack.specs.Touching.{TouchesShadow}
-use Rattle.jb_area.specs.Area.{copies_after, files_after, redo_of, small_redo_of, commits_with, DoubtOpens, HasMade, HasNoChange, HasPacked, IsBegun, IsCountedIn, IsDoubtful, IsResting, RestsAt}
-use Rattle.jb_area.specs.Commits.{IsCounted, next_commit}
+use Rattle.jb_area.specs.Area.{copies_after, files_after, packs_to, redo_of, small_redo_of, commits_with, DoubtOpens, HasMade, HasNoChange, HasPacked, IsBegun, IsCountedIn, IsDoubtful, IsResting, RestsAt}
+use Rattle.jb_area.specs.Commits.{IsCounted, next_commit, packs_with}
 use Rattle.jb_area.specs.Holds.{Opens, OpensToEither}
 use Rattle.jb_area.specs.declared.area.OpenArea.{OpenArea}
 use Rattle.jb_area.specs.declared.stage.Stage.{Stage}
@@ -91,8 +92,11 @@ module _ {D : Type 0} (shown : D → Device) where
     pub fits : Fits old.rules.slots change old.held
     pub becomes : coming ≡ coming_of change old.held (written_text command) texts
     pub somewhere : IsAnsweredSomewhere old.rules old.held user moment command reply change
-    -- it was the next commit of the area, and its record says so
+    -- the reply tells whether a text was written, or the area packed
+    pub told : IsToldBy reply change
+    -- it was the next commit of the area, and its record says so; and a pack is counted
     pub counted : IsCounted change old.commits new.commits (shown new.disk).contents
+    pub packs_counted : new.packs ≡ packs_with change old.packs
     -- for a refusal, a look, and a relink that found no wrong link, the device was only read
     pub idle : ChangesNothing command reply → OnlyReads (shown old.disk) (shown new.disk) × (coming ≡ record { to = old.held; texts = texts })
     -- but for a pack, each header stayed in its place, or is that of the edited message
@@ -112,23 +116,26 @@ module _ {D : Type 0} (shown : D → Device) where
     pub rests : IsResting shown new texts_now
     pub alone : EditsAlone number (state_of texts old.held) (state_of texts_now new.held)
 
-  -- what the change of a call in doubt would come to, as it would have been answered; a call that changes nothing has none
-  abbrev pub IsChangeOf : OpenArea D → List ℕ → User → ℕ → Command → Option Coming → Type 0
-  IsChangeOf old texts user moment command None = Unit {0}
-  IsChangeOf old texts user moment command (Some coming) =
+  -- what the change of a call in doubt would come to, as it would have been answered, and the packs that the area has then; a call
+  -- that changes nothing has none
+  abbrev pub IsChangeOf : OpenArea D → OpenArea D → List ℕ → User → ℕ → Command → Option Coming → Type 0
+  IsChangeOf old new texts user moment command None = packs_to new ≡ old.packs
+  IsChangeOf old new texts user moment command (Some coming) =
       (reply : Reply) × (change : Change) × (ChangesNothing command reply → ⊥) × Fits old.rules.slots change old.held
       × (coming ≡ coming_of change old.held (written_text command) texts)
       × IsAnsweredSomewhere old.rules old.held user moment command reply change
       × (IsTold reply (shown old.disk).contents → Step old.rules (state_of texts old.held) user moment command reply (state_of coming.texts coming.to))
+      × IsToldBy reply change × (packs_to new ≡ packs_with change old.packs)
 
   -- the call was stopped by a fault: its change, where it had one, may stand or not, and the area is loaded as before
   pub record HasStoppedIn (old new : OpenArea D) (texts : List ℕ) (user : User) (moment : ℕ) (command : Command) : Type 0 where
     pub coming : Option Coming
-    pub change : IsChangeOf old texts user moment command coming
+    pub change : IsChangeOf old new texts user moment command coming
     pub doubt : IsDoubtful shown new texts coming
     pub opens : ForSome (shown new.disk).contents (DoubtOpens old.held texts coming)
     pub loaded : new.held ≡ old.held
     pub commits : new.commits ≡ commits_with coming old.commits
+    pub packs : new.packs ≡ old.packs
     pub crash : ForSome (shown old.disk).contents (λ files.
         LeavesOnly (shown old.disk) (shown new.disk) (DoubtOpens old.held texts coming))
 
@@ -153,8 +160,9 @@ module _ {D : Type 0} (shown : D → Device) where
     -- whatever is answered, each command but a pack keeps what is copied of the texts, and a pack that was done drops it
     pub copies : IsNoPack command → new.packer ≡ old.packer
     pub packed : IfOk result (λ reply. IsPacked reply → HasPacked shown new)
-    -- for want of memory nothing is committed
+    -- for want of memory nothing is committed, and no pack is counted
     pub unspent : result ≡ Err OutOfMemory → new.commits ≡ old.commits
+    pub unpacked : result ≡ Err OutOfMemory → new.packs ≡ old.packs
 
   -- a call at rest is begun, or not; its files are only read, and the area is loaded as before, with what is copied of its texts
   pub record BeginsReading (old new : OpenArea D) (user : User) (moment : ℕ) (command : Command) (result : Result (Unit {0}) AreaError) : Type 0 where
@@ -164,6 +172,7 @@ module _ {D : Type 0} (shown : D → Device) where
     pub reads : OnlyReads (shown old.disk) (shown new.disk)
     pub loaded : new.held ≡ old.held
     pub commits : new.commits ≡ old.commits
+    pub packs : new.packs ≡ old.packs
     pub rules : new.rules ≡ old.rules
     pub copies : new.packer ≡ old.packer
     -- and but for a pack they stay when it is done
@@ -183,6 +192,7 @@ module _ {D : Type 0} (shown : D → Device) where
     pub alike : TellsAlike (shown old.disk) (shown new.disk)
     pub loaded : new.held ≡ old.held
     pub commits : new.commits ≡ old.commits
+    pub packs : new.packs ≡ old.packs
     pub rules : new.rules ≡ old.rules
     -- each command but a pack keeps what is copied of the texts, also when it is done
     pub copies : IsNoPack command → new.packer ≡ old.packer
@@ -200,6 +210,7 @@ module _ {D : Type 0} (shown : D → Device) where
     pub alike : TellsAlike (shown old.disk) (shown new.disk)
     pub loaded : new.held ≡ old.held
     pub commits : new.commits ≡ old.commits
+    pub packs : new.packs ≡ old.packs
     pub rules : new.rules ≡ old.rules
     pub room : small_redo_of new ≡ small_redo_of old
 
@@ -228,6 +239,9 @@ module _ {D : Type 0} (shown : D → Device) where
     -- what is copied of the texts stays, but where a pack was done; then .JNL is short, however long the texts are
     pub copies : OnOk result (new.packer ≡ copies_after old)
     pub kept : OnErr result (new.packer ≡ old.packer)
+    -- a pack is counted once it is done; where it was stopped it is counted when it is found to stand
+    pub packs : OnOk result (new.packs ≡ packs_to old)
+    pub unpacked : OnErr result ((new.packs ≡ old.packs) × (packs_to new ≡ packs_to old))
     pub packed : IfOk result (λ reply. IsPacked reply → HasPacked shown new)
 
 -- the stage that a decision leads to

@@ -19,7 +19,7 @@ use Rattle.jb_pack.specs.Touching.{AgreeButShadow}
 use Rattle.jb_redo.specs.Reading.{BeginsWith, record_part}
 use Rattle.jb_redo.specs.Record.{record_bytes, record_head}
 use Rattle.jb_state.specs.declared.change.Change.{Change}
-use Rattle.jb_state.specs.declared.change.Change.TheVariants.{Nothing}
+use Rattle.jb_state.specs.declared.change.Change.TheVariants.{Nothing, Packed}
 use Rattle.jb_area.specs.Holds.{IsAtRest, Opens}
 
 -- the files hold this area and these texts, nothing is on its way, and a crash now leaves them so
@@ -43,6 +43,15 @@ IsNumbered number files = BeginsWith (record_part files) (record_head Two number
 -- the number of the commit behind that of this number: the next one, but the greatest stays
 abbrev pub next_commit : ℕ → ℕ
 next_commit number = min (number + 1) 18446744073709551615
+
+-- the last number that a count of packs comes to, which stands for all more
+abbrev pub last_count : ℕ
+last_count = 18446744073709551615
+
+-- the count of packs, once this change stands
+abbrev pub packs_with : Change → ℕ → ℕ
+packs_with (Packed plan base) packs = min (packs + 1) last_count
+packs_with _ packs = packs
 
 -- a change that is done is the next commit, and its record says so; where there is none, nothing is committed
 abbrev pub IsCounted : Change → ℕ → ℕ → Option Files → Type 0

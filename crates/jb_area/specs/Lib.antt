@@ -1,4 +1,5 @@
 pub mod Area
+pub mod Backups
 pub mod Calls
 pub mod Commits
 pub mod Copying

@@ -2,6 +2,7 @@
 
 use crate::committing::{commit_change, in_use, settle_change};
 use crate::copying::{clear_copies, keep_after};
+use crate::counting::count_pack;
 use crate::places::{drop_both, drop_pending, drop_stage, put_redo, put_stage};
 use crate::stage::Stage;
 use jb_base::AreaRules;
@@ -24,6 +25,8 @@ pub struct OpenArea<D: Disk> {
     pub(crate) redo: Redo,
     /// The number of the last commit, 0 before the first.
     pub(crate) commits: u64,
+    /// The number of packs since it was opened; the last number stands for all more.
+    pub(crate) packs: u64,
     /// The change of the post, the edit, the relink or the pack that is begun or in doubt.
     pub(crate) large: Option<Redo>,
     /// What is copied of the texts for a pack.
@@ -32,7 +35,7 @@ pub struct OpenArea<D: Disk> {
 }
 
 impl<D: Disk> OpenArea<D> {
-    ghost use Rattle.std.specs.Prelude.{◌≡◌, List, [], ℕ, Option, None, Some, IfOk, IfErr, IsTrue, OnOk, OnErr, false};
+    ghost use Rattle.std.specs.Prelude.{◌≡◌, if◌then◌else◌, List, [], ℕ, Option, None, Some, IfOk, IfErr, IsTrue, OnOk, OnErr, false};
     ghost use Rattle.std.specs.Option.{ForSome};
     ghost use Rattle.jb_disk.specs.Device.{TellsAlike, CountsFaults, is_disk_fault};
     ghost use Rattle.jb_disk.specs.Runs.{LeavesOnly};
@@ -44,7 +47,7 @@ impl<D: Disk> OpenArea<D> {
     ghost use Rattle.jb_area.specs.Commits.{StandsFirm, StandsLate, StaysShutEarly, StopsAgain};
     ghost use Rattle.jb_journal.specs.declared.stopped.Stopped.TheVariants.{Late};
     ghost use Rattle.jb_decide.specs.Coming.{Coming};
-    ghost use Rattle.jb_area.specs.Area.{commits_of, copied_of, device_of, loaded_of, rules_of, small_redo_of, DoubtOpens, HasBegun, HasDoubt, IsBegun, IsDoubtful, IsHalfCopied, IsResting, RestsAt, SettlesAt, stopped_of};
+    ghost use Rattle.jb_area.specs.Area.{commits_of, copied_of, device_of, loaded_of, packs_of, packs_to, rules_of, small_redo_of, DoubtOpens, HasBegun, HasDoubt, IsBegun, IsDoubtful, IsHalfCopied, IsResting, RestsAt, SettlesAt, stopped_of};
 
     /// The area without its texts; while a call is begun or in doubt, as it was before that call.
     pub fn loaded(&self) -> &Loaded
@@ -65,6 +68,14 @@ impl<D: Disk> OpenArea<D> {
         ensures { result.now ≡ rules_of self.now }
     {
         &self.rules
+    }
+
+    /// The number of packs that stand since the area was opened, those that [`reopen`](OpenArea::reopen) found to stand among
+    /// them. At 2^64 - 1 the number stays, and so tells nothing more.
+    pub fn packs(&self) -> u64
+        ensures { result ≡ packs_of self.now }
+    {
+        self.packs
     }
 
     /// Commits the change of the call that is begun, and answers the reply that [`coming`](OpenArea::coming) lends. The commit
@@ -105,6 +116,7 @@ impl<D: Disk> OpenArea<D> {
             Ok(()) => {
                 put_redo(&mut self.large, None);
                 keep_after(&pending.change, &mut self.packer);
+                self.packs = count_pack(&pending.change, self.packs);
                 self.held.apply(pending);
                 Ok(reply)
             }
@@ -151,6 +163,7 @@ impl<D: Disk> OpenArea<D> {
         ensures copies { copied_of self.new ≡ copied_of self.old }
         ensures rules { rules_of self.new ≡ rules_of self.old }
         ensures commits { commits_of self.new ≡ commits_of self.old }
+        ensures packs { packs_of self.new ≡ packs_of self.old }
         ensures room { small_redo_of self.new ≡ small_redo_of self.old }
     {
         put_redo(&mut self.large, None);
@@ -184,6 +197,10 @@ impl<D: Disk> OpenArea<D> {
         ensures emptied { OnOk result ((texts : List ℕ) → IsHalfCopied D.device self.old texts
             → ForSome (device_of D.device self.new).contents (λ files. files shadow_file ≡ [])) }
 
+        // A pack that is found to stand is counted.
+        ensures packs { IfOk result (λ stands. packs_of self.new
+            ≡ (if stands then packs_to self.old else packs_of self.old)) }
+
         // Stopped: only by a fault, and in doubt as before.
         ensures still { OnErr result ((texts : List ℕ) (coming : Option Coming)
             → IsDoubtful D.device self.old texts coming
@@ -192,6 +209,8 @@ impl<D: Disk> OpenArea<D> {
             → IsDoubtful D.device self.old texts coming
             → ForSome (device_of D.device self.new).contents (DoubtOpens (loaded_of self.old) texts coming)) }
         ensures loaded { OnErr result (loaded_of self.new ≡ loaded_of self.old) }
+        ensures unpacked { OnErr result ((packs_of self.new ≡ packs_of self.old)
+            × (packs_to self.new ≡ packs_to self.old)) }
 
         // It keeps where it was stopped again: late behind a late stop, and then the change stands, whenever a crash comes.
         ensures place { IfErr result (λ again. stopped_of self.new ≡ again) }
@@ -242,6 +261,7 @@ impl<D: Disk> OpenArea<D> {
         match settle_change(&mut self.disk, in_use(&self.large, &self.redo), stopped) {
             Ok(true) => {
                 drop_both(&mut self.large, &mut self.packer);
+                self.packs = count_pack(&pending.change, self.packs);
                 self.held.apply(pending);
                 Ok(true)
             }
@@ -273,6 +293,7 @@ impl<D: Disk> OpenArea<D> {
             held: _,
             redo: _,
             commits: _,
+            packs: _,
             large: _,
             packer: _,
             stage,

@@ -101,6 +101,7 @@ impl<D: Disk> OpenArea<D> {
         ensures packer { self.new.packer ≡ self.old.packer }
         ensures redo { self.new.redo ≡ self.old.redo }
         ensures commits { self.new.commits ≡ self.old.commits }
+        ensures packs { self.new.packs ≡ self.old.packs }
         ensures large { self.new.large ≡ large_after decided large self.old.large }
     {
         match decided {

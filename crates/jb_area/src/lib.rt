@@ -24,10 +24,14 @@ mod calls;
 mod commands;
 mod committing;
 mod copying;
+mod counting;
+mod laws;
 mod opening;
 mod places;
+mod source;
 mod stage;
 
 pub use area::OpenArea;
 pub use jb_decide::AreaError;
 pub use jb_pack::PACK_STEP_BYTES;
+pub use laws::{backups_open, readings_keep_areas};

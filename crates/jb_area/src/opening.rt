@@ -7,7 +7,7 @@ ghost use Rattle.jb_disk.specs.declared.file.FileId.TheVariants.{Jdt as texts_fi
 ghost use Rattle.jb_state.specs.Sound.{IsSound};
 ghost use Rattle.jb_change.specs.Ready.{HasRoomInAll};
 ghost use Rattle.jb_decide.specs.Holds.{AreTexts};
-ghost use Rattle.jb_area.specs.Area.{commits_of, device_of, loaded_of, rules_of, IsResting};
+ghost use Rattle.jb_area.specs.Area.{commits_of, device_of, loaded_of, packs_of, rules_of, IsResting};
 ghost use Rattle.jb_area.specs.Calls.{HasRest};
 ghost use Rattle.jb_area.specs.Holds.{IsAtRest};
 
@@ -44,13 +44,14 @@ impl<D: Disk> OpenArea<D> {
             IsAtRest loaded (files texts_file) files) }
         requires synced { IsAllSynced (D.device disk) }
 
-        // At rest, with what was loaded, and nothing is committed yet.
+        // At rest, with what was loaded, and nothing is committed or packed yet.
         ensures rests { IfOk result (λ area. (texts : List ℕ)
             → AreTexts loaded texts (D.device disk).contents → IsResting D.device area texts) }
         ensures rest { IfOk result (HasRest D.device) }
         ensures loaded { IfOk result (λ area. loaded_of area ≡ loaded) }
         ensures rules { IfOk result (λ area. rules_of area ≡ rules) }
         ensures commits { IfOk result (λ area. commits_of area ≡ 0) }
+        ensures packs { IfOk result (λ area. packs_of area ≡ 0) }
         ensures device { IfOk result (λ area. device_of D.device area ≡ D.device disk) }
 
         // Or the disk, as it was.
@@ -68,6 +69,7 @@ impl<D: Disk> OpenArea<D> {
             held,
             redo,
             commits: 0,
+            packs: 0,
             large: None,
             packer: None,
             stage: Stage::Resting,

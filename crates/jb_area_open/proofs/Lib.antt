@@ -1,2 +1,3 @@
+pub mod BackupLemmas
 pub mod OpeningLemmas
 pub mod RefusalLemmas

@@ -16,5 +16,5 @@ mod loading;
 mod opening;
 
 pub use error::OpeningError;
-pub use laws::what_opens_is_not_refused;
+pub use laws::{backups_are_opened, unsigned_bases_are_refused, what_opens_is_not_refused};
 pub use opening::open_area;

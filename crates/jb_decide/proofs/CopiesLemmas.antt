@@ -53,7 +53,7 @@ with_copies rules from texts contents copies redo user moment command decided is
   somewhere = is.somewhere;
   idle = is.idle;
   kind = is.kind;
-  packing = is.packing;
+  told = is.told;
   headers = λ same files has. is.headers same files (bare from texts copies files has);
   index = is.index;
   packs = λ files has. is.packs files (bare from texts copies files has);

@@ -34,13 +34,14 @@ use Rattle.jb_model.specs.declared.reply.Reply.TheVariants as reply
 use Rattle.jb_pack.specs.Shadow.{Shadow}
 use Rattle.jb_redo.specs.Changes.{IsWritable, changed}
 use Rattle.jb_decide.specs.Coming.{BringsComing, Coming, coming_of}
-use Rattle.jb_decide.specs.Decided.{HasShortRecord, IsAnswerBy, IsDecided, IsPacking, IsPending, IsTold, made}
+use Rattle.jb_decide.specs.Decided.{HasShortRecord, IsAnswerBy, IsDecided, IsPending, IsTold, made}
 use Rattle.jb_decide.specs.Headers.{KeepsHeaders, NamesWritten, PacksHeaders}
 use Rattle.jb_decide.specs.Draft.{next_of}
 use Rattle.jb_decide.specs.Packs.{IsPacked}
 use Rattle.jb_decide.specs.Read.{letter_in}
 use Rattle.jb_decide.specs.Seen.{shown_message}
 use Rattle.jb_decide.specs.StepOf.{ChangesNothing, IsStepOf, NamesNumber, written_text, text_behind}
+use Rattle.jb_decide.specs.Telling.{IsPacking, IsToldBy}
 use Rattle.jb_decide.specs.declared.decided.Decided.{Decided}
 use Rattle.jb_decide.proofs.BringLemmas.{brings, keeps_more, keeps_same}
 use Rattle.jb_decide.proofs.HeaderLemmas.{keeps_all, keeps_headers, last_message, message_set, stands_behind}
@@ -272,6 +273,7 @@ step_decided rules from texts contents redo user moment command shows decided is
     let change : Change = decided.pending.change in
     let posted : List ℕ = written_text command in
     let coming : Coming = coming_of change from posted texts in
+    let told : IsToldBy decided.reply change = subst (λ (r : Reply). IsToldBy r change) (sym answer.answers) (is.told answer.others) in
     let unchanged : change ≡ Nothing → coming ≡ record { to = from; texts = texts } = λ none. ap (λ (c : Change). coming_of c from posted texts) none in
     record {
       coming = coming;
@@ -291,7 +293,7 @@ step_decided rules from texts contents redo user moment command shows decided is
           let none : change ≡ Nothing = is.idle answer.others (subst (ChangesNothing command) answer.answers nothing) in
           record { none = none; same = unchanged none };
       kind = λ no. (none_of_pack change redo from from is.kind).0;
-      packing = λ packed. absurd (is.unpacked answer.others (subst IsPacked answer.answers packed));
+      told = told;
       headers = λ same files has. elim (nothing_or change) [
         | inl none ↦ subst (λ (c : Change). KeepsHeaders c decided.reply from (after c from) files (made c redo files)) (sym none) (keeps_all decided.reply from files)
         | inr some ↦ subst (KeepsHeaders change decided.reply from (after change from) files) (sym (made_some change redo files some))
@@ -302,7 +304,7 @@ step_decided rules from texts contents redo user moment command shows decided is
         | inl none ↦ subst (KeepsIndexOnKill redo from) (sym none) tt
         | inr some ↦ (put some).index
       ];
-      packs = λ files has. none_packed decided.reply (λ packed. is.unpacked answer.others (subst IsPacked answer.answers packed)) coming.to (made change redo files);
+      packs = λ files has. none_packed decided.reply (λ packed. (none_of_pack change redo from from is.kind).0 (subst (λ (r : Reply). IsToldBy r change) packed.is told)) coming.to (made change redo files);
     }
 
 -- a step that changes nothing

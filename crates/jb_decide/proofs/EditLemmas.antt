@@ -38,7 +38,7 @@ use Rattle.jb_decide.proofs.CountLemmas.{counted_now}
 use Rattle.jb_decide.proofs.PostLemmas.{refuses_files, refuses_parts, refuses_then}
 use Rattle.jb_decide.proofs.SoundLemmas.{slot_within, sound_counted}
 use Rattle.jb_decide.proofs.StateLemmas.{accepted_way, allowed_way, answer, denied_way, message_way, none_way, refused_way, visible_found, visible_none}
-use Rattle.jb_decide.proofs.StepLemmas.{not_packed, something}
+use Rattle.jb_decide.proofs.StepLemmas.{something}
 
 -- the message as it is edited
 abbrev pub edited_live : List ℕ → List ℕ → LoadedMessage → LiveMessage
@@ -223,6 +223,6 @@ edit_is rules loaded user moment number place subject text message anew accepted
       kind = tt;
       text = refl;
       idle = λ texts nothing. absurd (something (Edit number subject text) (EditedReply number) refl (λ look. look) (λ links. cc) nothing);
-      unpacked = λ texts packed. not_packed (EditedReply number) (λ base live dropped is. cc) packed;
+      told = λ texts. tt;
       named = λ texts. ap (λ (n : ℕ). EditedReply n) is;
     })

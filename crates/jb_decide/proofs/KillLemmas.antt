@@ -22,7 +22,7 @@ use Rattle.jb_model.specs.declared.reply.Reply.TheVariants.{Denied, NoMessage, K
 use Rattle.jb_state.specs.Change.{live_messages, loaded_counted}
 use Rattle.jb_decide.specs.Refusal.{IsRefusal}
 use Rattle.jb_decide.specs.StepOf.{IsStepOf}
-use Rattle.jb_decide.proofs.StepLemmas.{not_packed, something}
+use Rattle.jb_decide.proofs.StepLemmas.{something}
 use Rattle.jb_state.proofs.PlaceLaws.{killed_is}
 use Rattle.jb_decide.specs.Seen.{IsNamed, loaded_envelope, seen_at}
 use Rattle.jb_decide.proofs.CountLemmas.{counted_now}
@@ -105,6 +105,6 @@ kill_is rules loaded user moment number place message listed seen allowed named 
       kind = tt;
       text = refl;
       idle = λ texts nothing. absurd (something (Kill number) (KilledReply number) refl (λ look. look) (λ links. cc) nothing);
-      unpacked = λ texts packed. not_packed (KilledReply number) (λ base live dropped is. cc) packed;
+      told = λ texts. tt;
       named = λ texts. tt;
     }

@@ -19,7 +19,7 @@ use Rattle.jb_state.specs.declared.loaded.Loaded.{Loaded}
 use Rattle.jb_state.specs.declared.mark.Mark.{Mark}
 use Rattle.jb_model.specs.declared.reply.Reply.TheVariants.{Marked, MarksFull, NoMessage}
 use Rattle.jb_decide.specs.StepOf.{IsStepOf}
-use Rattle.jb_decide.proofs.StepLemmas.{not_packed, something}
+use Rattle.jb_decide.proofs.StepLemmas.{something}
 use Rattle.jb_marks.proofs.MarkLemmas.{mark_of-none}
 use Rattle.jb_state.specs.Places.{HasNone, IsPlaceOf}
 use Rattle.jb_state.specs.declared.change.Change.TheVariants.{Marked as MarkedAt}
@@ -126,6 +126,6 @@ marking_is rules loaded user moment number place mark listed accepted made place
       kind = tt;
       text = refl;
       idle = λ texts nothing. absurd (something (SetMark number) (Marked mark.last mark.high) refl (λ look. look) (λ links. cc) nothing);
-      unpacked = λ texts packed. not_packed (Marked mark.last mark.high) (λ base live dropped is. cc) packed;
+      told = λ texts. tt;
       named = λ texts. tt;
     }

@@ -35,7 +35,7 @@ use Rattle.jb_held.specs.Pending.{BringsPacked}
 use Rattle.jb_held.specs.declared.pending.Room.{Room}
 use Rattle.jb_decide.specs.Decided.{IsDecided}
 use Rattle.jb_decide.specs.Holds.{HoldsWith}
-use Rattle.jb_decide.proofs.StepLemmas.{no_pack, something}
+use Rattle.jb_decide.proofs.StepLemmas.{something, told_of_refusal}
 use Rattle.jb_decide.specs.StepOf.{IsStepOf}
 use Rattle.jb_model.specs.Standing.{is_refusal}
 use Rattle.jb_state.specs.declared.change.Change.TheVariants.{Nothing, Packed}
@@ -108,7 +108,7 @@ pack_refused rules from user moment answer refusal sound is = record {
   kind = tt;
   text = refl;
   idle = λ texts nothing. refl;
-  unpacked = λ texts packed. no_pack answer refusal packed;
+  told = λ texts. told_of_refusal answer refusal;
   named = λ texts. tt;
 }
 
@@ -154,7 +154,7 @@ pack_decided rules from texts contents shadow redo user moment base live dropped
       somewhere = record { texts = texts; sized = size; step = done };
       idle = λ nothing. absurd (something Pack (reply.Packed base live dropped) refl (λ look. look) (λ links. cc) nothing);
       kind = λ none packing. none;
-      packing = λ packed. tt;
+      told = tt;
       headers = λ none files has. absurd none;
       index = tt;
       packs = λ files has. (brings.made files (both files has)).together;

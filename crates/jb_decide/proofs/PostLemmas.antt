@@ -37,7 +37,7 @@ use Rattle.jb_link.specs.Parents.{copied_msgid, parent_behind}
 use Rattle.jb_decide.specs.Draft.{new_fields, new_message, next_of, post_of}
 use Rattle.jb_decide.specs.Neighbour.{HasNeighbour, spliced_state}
 use Rattle.jb_decide.specs.StepOf.{IsStepOf}
-use Rattle.jb_decide.proofs.StepLemmas.{not_packed, something}
+use Rattle.jb_decide.proofs.StepLemmas.{something}
 use Rattle.jb_decide.specs.Refusal.{IsRefusal}
 use Rattle.jb_decide.specs.Room.{file_refusal, new_refusal, number_refusal, or_refusal, unseen_refusal}
 use Rattle.jb_decide.specs.Seen.{seen_at}
@@ -344,7 +344,7 @@ post_is rules loaded user moment number draft message neighbour accepted next ma
       kind = tt;
       text = refl;
       idle = λ texts nothing. absurd (something (post_of draft) (Posted (next_of loaded)) refl (λ look. look) (λ links. cc) nothing);
-      unpacked = λ texts packed. not_packed (Posted (next_of loaded)) (λ base live dropped is. cc) packed;
+      told = λ texts. tt;
       named = λ texts. refl;
     }))
 

@@ -24,7 +24,7 @@ use Rattle.jb_state.specs.declared.message.Head.{Head}
 use Rattle.jb_model.specs.declared.reply.Reply.TheVariants.{Text}
 use Rattle.jb_state.specs.Change.{live_messages, loaded_counted}
 use Rattle.jb_decide.specs.Read.{IsReading, letter_in, read_head}
-use Rattle.jb_decide.proofs.StepLemmas.{not_packed, something}
+use Rattle.jb_decide.proofs.StepLemmas.{something}
 use Rattle.jb_state.proofs.PlaceLaws.{headed_is}
 use Rattle.jb_state.specs.declared.change.HeadAt.{HeadAt}
 use Rattle.jb_decide.specs.Seen.{IsNamed, seen_at, with_head}
@@ -127,7 +127,7 @@ reading_is rules loaded user moment number at message listed seen made named sou
         kind = tt;
         text = refl;
         idle = λ texts nothing. absurd (something (Read number) (letter_in number at.head message texts) refl (λ look. look) (λ links. cc) nothing);
-        unpacked = λ texts packed. not_packed (letter_in number at.head message texts) (λ base live dropped is. cc) packed;
+        told = λ texts. tt;
         named = λ texts. tt;
       };
     }

@@ -19,7 +19,7 @@ use Rattle.jb_state.specs.declared.loaded.LoadedMessage.{LoadedMessage}
 use Rattle.jb_model.specs.declared.reply.Reply.TheVariants.{Relinked}
 use Rattle.jb_state.specs.Change.{live_messages, loaded_counted}
 use Rattle.jb_decide.specs.StepOf.{IsStepOf}
-use Rattle.jb_decide.proofs.StepLemmas.{not_packed, something}
+use Rattle.jb_decide.proofs.StepLemmas.{something}
 use Rattle.jb_state.specs.declared.change.Change.TheVariants.{Nothing, Relinked as RelinkedBy}
 use Rattle.jb_model.specs.declared.command.Command.TheVariants.{Relink}
 use Rattle.jb_state.specs.Linked.{linked_head, with_links_in, with_links_of}
@@ -94,7 +94,7 @@ linked_is rules loaded user moment changed allowed none counts sound = record {
   kind = tt;
   text = refl;
   idle = λ texts nothing. refl;
-  unpacked = λ texts packed. not_packed (Relinked changed) (λ base live dropped is. cc) packed;
+  told = λ texts. tt;
   named = λ texts. tt;
 }
 
@@ -109,6 +109,6 @@ relinking_is rules loaded user moment changed plan allowed is some counts sound 
   kind = tt;
   text = refl;
   idle = λ texts nothing. absurd (something Relink (Relinked changed) refl (λ look. look) (λ none. some (same_count changed 0 none)) nothing);
-  unpacked = λ texts packed. not_packed (Relinked changed) (λ base live dropped is. cc) packed;
+  told = λ texts. tt;
   named = λ texts. tt;
 }

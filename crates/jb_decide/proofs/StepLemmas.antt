@@ -11,18 +11,30 @@ use Rattle.jb_model.specs.declared.command.Command.{Command}
 use Rattle.jb_state.specs.declared.loaded.Loaded.{Loaded}
 use Rattle.jb_model.specs.declared.reply.Reply.{Reply}
 use Rattle.jb_model.specs.declared.reply.Reply.TheVariants as reply
-use Rattle.jb_decide.specs.Packs.{IsPacked}
 use Rattle.jb_decide.specs.Refusal.{IsRefusal}
 use Rattle.jb_decide.specs.StepOf.{ChangesNothing, IsLook, IsStepOf}
+use Rattle.jb_decide.specs.Telling.{IsToldBy}
 use Rattle.jb_decide.specs.declared.outcome.Outcome.{Outcome}
 
--- an answer that differs from each of a pack that was done is none
-pub not_packed : (answer : Reply) → ((base live dropped : ℕ) → answer ≡ reply.Packed base live dropped → ⊥) → IsPacked answer → ⊥
-not_packed answer other packed = other packed.base packed.live packed.dropped packed.is
-
--- nor is a refusal one
-pub no_pack : (answer : Reply) → is_refusal answer ≡ true → IsPacked answer → ⊥
-no_pack answer refusal packed = false≢true (sym (ap is_refusal packed.is) ∙ refusal)
+-- a refusal is told by what changes nothing
+pub told_of_refusal : (answer : Reply) → is_refusal answer ≡ true → IsToldBy answer Nothing
+told_of_refusal (reply.Posted number) refusal = absurd (false≢true refusal)
+told_of_refusal (reply.Edited number) refusal = absurd (false≢true refusal)
+told_of_refusal (reply.Text letter) refusal = tt
+told_of_refusal (reply.Killed number) refusal = tt
+told_of_refusal (reply.Marked last high) refusal = tt
+told_of_refusal (reply.Packed base live dropped) refusal = absurd (false≢true refusal)
+told_of_refusal (reply.Relinked changed) refusal = tt
+told_of_refusal (reply.Denied rule) refusal = tt
+told_of_refusal (reply.NoMessage number) refusal = tt
+told_of_refusal (reply.TooLong field len) refusal = tt
+told_of_refusal (reply.EmptyName field) refusal = tt
+told_of_refusal (reply.SlotsFull slots) refusal = tt
+told_of_refusal (reply.SubfieldsFull len) refusal = tt
+told_of_refusal (reply.HeadersFull len) refusal = tt
+told_of_refusal (reply.TextFull len) refusal = tt
+told_of_refusal (reply.NumbersSpent next) refusal = tt
+told_of_refusal (reply.MarksFull marks) refusal = tt
 
 -- a command that is answered, does not look, and is no relink that finds no wrong link changes something
 pub something : (command : Command) (answer : Reply) → is_refusal answer ≡ false → (IsLook command → ⊥) → (answer ≡ reply.Relinked 0 → ⊥) → ChangesNothing command answer → ⊥
@@ -40,7 +52,7 @@ refused_step rules loaded user moment command answer sound is = record {
   kind = tt;
   text = refl;
   idle = λ texts nothing. refl;
-  unpacked = λ texts packed. no_pack answer is.refusal packed;
+  told = λ texts. told_of_refusal answer is.refusal;
   named = λ texts. tt;
 }
 

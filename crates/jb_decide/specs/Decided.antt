@@ -23,19 +23,14 @@ use Rattle.jb_redo.specs.Changes.{changed, record_size}
 use Rattle.jb_decide.specs.Coming.{Coming, IsChange}
 use Rattle.jb_decide.specs.Headers.{KeepsHeaders, PacksHeaders}
 use Rattle.jb_decide.specs.Holds.{HoldsWith}
-use Rattle.jb_decide.specs.Packs.{IsPacked}
 use Rattle.jb_decide.specs.StepOf.{ChangesNothing, IsNoPack, written_text}
+use Rattle.jb_decide.specs.Telling.{IsPacking, IsToldBy}
 use Rattle.jb_decide.specs.declared.decided.Decided.{Decided}
 
 -- an area that is kept by these rules is sound, and has no more slots than they allow
 pub record IsKeptFor (rules : AreaRules) (loaded : Loaded) : Type 0 where
   pub few_slots : rules.slots ≤ MOST_SLOTS
   pub sound : IsSound rules.slots loaded
-
--- the change is that the area is packed
-abbrev pub IsPacking : Change → Type 0
-IsPacking (Packed plan base) = Unit {0}
-IsPacking _ = ⊥
 
 -- however long the texts are, the record of a pack is short beside the headers and the index that it makes
 abbrev pub HasShortRecord : Change → RedoView → Loaded → Type 0
@@ -89,9 +84,9 @@ pub record IsDecided (rules : AreaRules) (from : Loaded) (texts : List ℕ) (con
   pub step : IsTold decided.reply contents → Step rules (state_of texts from) user moment command decided.reply (state_of coming.texts coming.to)
   pub somewhere : IsAnsweredSomewhere rules from user moment command decided.reply decided.pending.change
   pub idle : ChangesNothing command decided.reply → IsNoChange decided.pending.change from texts coming
-  -- no command but a pack packs the area, and where a pack was done it does
+  -- no command but a pack packs the area; the reply says whether the change packs it, writes a text, or leaves the texts as they are
   pub kind : IsNoPack command → IsPacking decided.pending.change → ⊥
-  pub packing : IsPacked decided.reply → IsPacking decided.pending.change
+  pub told : IsToldBy decided.reply decided.pending.change
   pub headers : IsNoPack command → (files : Files) → HoldsWith from texts copies files → KeepsHeaders decided.pending.change decided.reply from coming.to files (made decided.pending.change redo files)
   -- a kill leaves the file of the index as it is
   pub index : KeepsIndexOnKill redo from decided.pending.change

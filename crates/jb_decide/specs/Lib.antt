@@ -12,4 +12,5 @@ pub mod Room
 pub mod Seen
 pub mod SetMark
 pub mod StepOf
+pub mod Telling
 pub mod Laws

@@ -16,7 +16,7 @@ use Rattle.jb_state.specs.declared.loaded.Loaded.{Loaded}
 use Rattle.jb_model.specs.declared.reply.Reply.{Reply}
 use Rattle.jb_model.specs.declared.reply.Reply.TheVariants as replies
 use Rattle.jb_decide.specs.Draft.{next_of}
-use Rattle.jb_decide.specs.Packs.{IsPacked}
+use Rattle.jb_decide.specs.Telling.{IsToldBy}
 
 -- the text that a command writes: that of a post or an edit
 abbrev pub written_text : Command → List ℕ
@@ -61,5 +61,5 @@ pub record IsStepOf (rules : AreaRules) (from : Loaded) (user : User) (moment : 
   pub text : IsTextOf change (text_behind change (written_text command))
   -- what the reply tells of it
   pub idle : (texts : List ℕ) → ChangesNothing command (reply texts) → change ≡ Nothing
-  pub unpacked : (texts : List ℕ) → IsPacked (reply texts) → ⊥
+  pub told : (texts : List ℕ) → IsToldBy (reply texts) change
   pub named : (texts : List ℕ) → NamesNumber change from (reply texts)

@@ -10,6 +10,6 @@ returns g c = λ moment.
     let has = c.requires.rests in
     let area = c.args.self.now in
     let decided : Decided = c.decide_kill-decided.result in
-    begins g.D.Disk.device area (record area { redo = c.decide_kill-decided.new.redo; stage = c.put_stage.new.place }) area.disk c.decide_kill-decided.new.redo None refl refl refl refl refl refl
+    begins g.D.Disk.device area (record area { redo = c.decide_kill-decided.new.redo; stage = c.put_stage.new.place }) area.disk c.decide_kill-decided.new.redo None refl refl refl refl refl refl refl
     (reads_itself (g.D.Disk.device area.disk)) c.decide_kill-decided.ensures.room (Ok decided) (Ok tt) c.args.user.now moment _ c.put_stage.ensures has.rests.small refl
     (λ texts are. c.decide_kill-decided.ensures.decided moment texts (g.D.Disk.device area.disk).contents are) (counts_none is_area_fault (g.D.Disk.device area.disk) (Ok decided) tt) has

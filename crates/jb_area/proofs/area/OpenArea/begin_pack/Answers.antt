@@ -18,7 +18,7 @@ returns-in-Some-clause-begins g c = λ moment.
     let has = c.requires.rests in
     let area = c.args.self.now in
     let decided : Decided = record { reply = c.in-Some.reply; pending = record { change = Nothing; room = no_room } } in
-    begins g.D.Disk.device area (record area { stage = c.put_stage.new.place }) area.disk area.redo None refl refl refl refl refl refl
+    begins g.D.Disk.device area (record area { stage = c.put_stage.new.place }) area.disk area.redo None refl refl refl refl refl refl refl
     (reads_itself (g.D.Disk.device area.disk)) has.rests.kept.ruled.room (Ok decided) (Ok tt) c.args.user.now moment _ (c.put_stage.ensures ∙ ap (λ (p : Pending). Begun c.in-Some.reply p) c.nothing_pending.ensures) has.rests.small refl
     (λ texts are. c.refuse_pack.ensures.refused c.in-Some.reply c.in-Some.is moment texts (g.D.Disk.device area.disk).contents area.redo are) (counts_none is_area_fault (g.D.Disk.device area.disk) (Ok decided) tt) has
 

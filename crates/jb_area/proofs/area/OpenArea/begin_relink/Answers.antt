@@ -25,5 +25,5 @@ returns-clause-begins g c = λ moment.
       | in-Ok w ↦ subst (λ (r : Result Decided AreaError). IfErr r (λ error. is_area_fault error ≡ false)) (sym w.decided-is) tt
       | in-Err w ↦ subst (λ (r : Result Decided AreaError). IfErr r (λ error. is_area_fault error ≡ false)) (sym w.decided-is) refl
     ] in
-    begins g.D.Disk.device area c.start.new.self area.disk area.redo (Some c.decide_relink.new.redo) c.start.ensures.disk c.start.ensures.rules c.start.ensures.held c.start.ensures.redo c.start.ensures.packer c.start.ensures.commits
+    begins g.D.Disk.device area c.start.new.self area.disk area.redo (Some c.decide_relink.new.redo) c.start.ensures.disk c.start.ensures.rules c.start.ensures.held c.start.ensures.redo c.start.ensures.packer c.start.ensures.commits c.start.ensures.packs
     (reads_itself device) has.rests.kept.ruled.room c.match-decide_relink.decided c.start.result c.args.user.now moment _ c.start.ensures.stage c.start.ensures.large c.start.ensures.answer is (counts_none is_area_fault device c.match-decide_relink.decided none) has

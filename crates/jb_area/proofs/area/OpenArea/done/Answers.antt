@@ -20,6 +20,8 @@ returns-in-Ok g c = record {
   rules = c.finish.ensures.ends.rules;
   copies = c.in-Ok.ensures.ends.copies;
   kept = tt;
+  packs = c.in-Ok.ensures.ends.packs;
+  unpacked = tt;
   packed = c.in-Ok.ensures.ends.packed;
 }
 
@@ -41,5 +43,7 @@ returns-in-Err g c = record {
   rules = c.finish.ensures.ends.rules;
   copies = tt;
   kept = c.in-Err.ensures.ends.kept;
+  packs = tt;
+  unpacked = c.in-Err.ensures.ends.unpacked;
   packed = tt;
 }

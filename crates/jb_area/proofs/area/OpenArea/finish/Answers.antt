@@ -1,11 +1,12 @@
 use Rattle.std.proofs.Common.{List, ℕ, Some, ap, arith, refl, subst, sym, ◌∙◌}
 use Rattle.jb_decide.specs.Coming.{Coming}
-use Rattle.jb_decide.specs.Decided.{IsPacking}
+use Rattle.jb_decide.specs.Telling.{IsPacking}
 use Rattle.jb_journal.specs.declared.stopped.Stopped.{Stopped}
 use Rattle.jb_model.specs.declared.reply.Reply.{Reply}
 use Rattle.jb_state.specs.declared.change.Change.{Change}
-use Rattle.jb_area.specs.Area.{copied_after, stopped_in, IsBegun, IsBetween}
-use Rattle.jb_area.specs.Commits.{StandsLate}
+use Rattle.jb_area.specs.Area.{copied_after, packs_in, stopped_in, IsBegun, IsBetween}
+use Rattle.jb_area.specs.Commits.{StandsLate, packs_with}
+use Rattle.jb_area.specs.declared.stage.Stage.{Stage}
 use Rattle.jb_area.proofs.CommitLemmas.{idle_opens}
 use Rattle.jb_area.proofs.DoubtLemmas.{doubt_reads, doubt_stands}
 use Rattle.jb_area.proofs.PackedLemmas.{copies_drop}
@@ -35,6 +36,8 @@ returns-in-Nothing-clause-ends g c =
       rules = refl;
       copies = sym (kept_by area.stage c.in-Begun.reply c.in-Begun.pending area.packer is ∙ ap (λ (change : Change). copied_after change area.packer) c.in-Nothing.is);
       kept = tt;
+      packs = sym (ap (λ (s : Stage). packs_in s area.packs) is ∙ ap (λ (change : Change). packs_with change area.packs) c.in-Nothing.is);
+      unpacked = tt;
       packed = λ packed.
           let has = c.requires.begun in
           absurd (subst IsPacking c.in-Nothing.is (packing_is g.D.Disk.device area has.texts has.reply has.coming has.begun c.in-Begun.reply c.in-Begun.pending is packed));
@@ -46,10 +49,10 @@ returns-in-Ok-clause-ends g c =
     let is = sym c.replace-stage.ensures.value ∙ c.in-Begun.is in
     record {
       done = λ texts decided coming begun.
-          rests_changed g.D.Disk.device area texts decided coming begun c.in-Begun.reply c.in-Begun.pending c.commit_change.new.disk c.saturating_add-self.result c.apply.new.self c.put_redo-in-Ok.new.place c.keep_after.new.kept c.replace-stage.new.dest c.in_use.result.now
+          rests_changed g.D.Disk.device area texts decided coming begun c.in-Begun.reply c.in-Begun.pending c.commit_change.new.disk c.saturating_add-self.result c.count_pack-self.result c.apply.new.self c.put_redo-in-Ok.new.place c.keep_after.new.kept c.replace-stage.new.dest c.in_use.result.now
           c.in_use.ensures is c.in_default-change.not-Nothing c.put_redo-in-Ok.ensures c.keep_after.ensures c.replace-stage.ensures.after c.apply.ensures
           c.commit_change.ensures.alike c.in-Ok.ensures.made c.in-Ok.ensures.done;
-      made = made_change g.D.Disk.device area c.in-Begun.reply c.in-Begun.pending is c.commit_change.new.disk c.saturating_add-self.result c.apply.new.self c.put_redo-in-Ok.new.place c.keep_after.new.kept c.replace-stage.new.dest c.in_use.result.now
+      made = made_change g.D.Disk.device area c.in-Begun.reply c.in-Begun.pending is c.commit_change.new.disk c.saturating_add-self.result c.count_pack-self.result c.apply.new.self c.put_redo-in-Ok.new.place c.keep_after.new.kept c.replace-stage.new.dest c.in_use.result.now
           c.in_use.ensures c.in_default-change.not-Nothing c.in-Ok.ensures.made;
       idle = λ none. absurd (some_change area c.in-Begun.reply c.in-Begun.pending is c.in_default-change.not-Nothing none);
       fault = tt;
@@ -68,6 +71,8 @@ returns-in-Ok-clause-ends g c =
       rules = refl;
       copies = c.keep_after.ensures ∙ sym (kept_by area.stage c.in-Begun.reply c.in-Begun.pending area.packer is);
       kept = tt;
+      packs = c.count_pack-self.ensures ∙ sym (ap (λ (s : Stage). packs_in s area.packs) is);
+      unpacked = tt;
       packed = λ packed.
           let has = c.requires.begun in
           let packing = packing_is g.D.Disk.device area has.texts has.reply has.coming has.begun c.in-Begun.reply c.in-Begun.pending is packed in
@@ -106,6 +111,8 @@ returns-in-Err-clause-ends g c =
       rules = refl;
       copies = tt;
       kept = refl;
+      packs = tt;
+      unpacked = (refl, ap (λ (s : Stage). packs_in s area.packs) c.put_stage.ensures ∙ sym (ap (λ (s : Stage). packs_in s area.packs) is));
       packed = tt;
     }
 

@@ -1,8 +1,9 @@
-use Rattle.std.proofs.Common.{Bool, Some, ap, inl, inr, sym, subst, ◌∙◌}
+use Rattle.std.proofs.Common.{Bool, Some, ap, inl, inr, refl, sym, subst, ◌∙◌}
 use Rattle.std.specs.Prelude.{IsTrue}
 use Rattle.jb_journal.specs.declared.stopped.Stopped.{Stopped}
-use Rattle.jb_area.specs.Area.{stopped_in}
+use Rattle.jb_area.specs.Area.{packs_in, stopped_in}
 use Rattle.jb_area.specs.Commits.{IsAnsweredAs, StandsLate, StopsAgain}
+use Rattle.jb_area.specs.declared.stage.Stage.{Stage}
 use Rattle.jb_area.proofs.DoubtLemmas.{at_doubt, copying_again, copying_crashes, copying_firm, copying_late, copying_settles, copying_still, crashes, doubt_reads, doubt_stands, drops, early_late, falls, firm, idle, may_apply, may_settle, stands, still, unchanged_early, unchanged_firm}
 use Rattle.jb_area.proofs.area.OpenArea.reopen.Goals as goal
 
@@ -61,7 +62,7 @@ settle_change-requires g c =
 pub returns-in-Ok-true-clause-settled : goal.returns-in-Ok-true-clause-settled
 returns-in-Ok-true-clause-settled g c =
     stands g.D.Disk.device c.args.self.now c.in-Doubtful.stopped c.in-Doubtful.pending (sym c.replace-stage.ensures.value ∙ c.in-Doubtful.is) c.in_default-change.not-Nothing c.in_use.result.now c.in_use.ensures
-    c.settle_change.new.disk c.apply.new.self c.drop_both-in-Ok-true.new.large c.drop_both-in-Ok-true.new.packer c.replace-stage.new.dest c.drop_both-in-Ok-true.ensures.large c.drop_both-in-Ok-true.ensures.packer c.replace-stage.ensures.after c.apply.ensures
+    c.settle_change.new.disk c.count_pack-self.result c.apply.new.self c.drop_both-in-Ok-true.new.large c.drop_both-in-Ok-true.new.packer c.replace-stage.new.dest c.drop_both-in-Ok-true.ensures.large c.drop_both-in-Ok-true.ensures.packer c.replace-stage.ensures.after c.apply.ensures
     (λ from texts copies coming doubt is. subst (λ (b : Bool). IsAnsweredAs b from texts coming (g.D.Disk.device c.settle_change.new.disk)) c.in-Ok-true.field-0-test (c.in-Ok-true.ensures.answer from texts copies coming doubt is))
 
 pub returns-in-Ok-true-clause-crash : goal.returns-in-Ok-true-clause-crash
@@ -156,3 +157,14 @@ returns-in-Ok-false-clause-firm g c =
 pub returns-in-Err-settle_change-clause-firm : goal.returns-in-Err-settle_change-clause-firm
 returns-in-Err-settle_change-clause-firm g c =
     firm g.D.Disk.device c.args.self.now c.in-Doubtful.stopped c.in-Doubtful.pending (sym c.replace-stage.ensures.value ∙ c.in-Doubtful.is) c.in_default-change.not-Nothing c.in_use.result.now c.in_use.ensures (g.D.Disk.device c.settle_change.new.disk) c.settle_change.ensures.firm
+
+pub returns-in-Ok-true-clause-packs : goal.returns-in-Ok-true-clause-packs
+returns-in-Ok-true-clause-packs g c =
+    c.count_pack-self.ensures ∙ sym (ap (λ (s : Stage). packs_in s c.args.self.now.packs) (sym c.replace-stage.ensures.value ∙ c.in-Doubtful.is))
+
+pub returns-in-Err-settle_change-clause-unpacked : goal.returns-in-Err-settle_change-clause-unpacked
+returns-in-Err-settle_change-clause-unpacked g c = (
+  refl,
+  ap (λ (s : Stage). packs_in s c.args.self.now.packs) c.put_stage-in-Err-settle_change.ensures
+      ∙ sym (ap (λ (s : Stage). packs_in s c.args.self.now.packs) (sym c.replace-stage.ensures.value ∙ c.in-Doubtful.is)),
+)
