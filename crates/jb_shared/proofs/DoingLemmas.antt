@@ -2,7 +2,7 @@
 use Rattle.std.proofs.Common.{◌≡◌, ℕ, List, Result, Ok, Err, true, sym, ◌∙◌, ap, subst}
 use Rattle.std.specs.Option.{ForSome}
 use Rattle.std.specs.Prelude.{IfErr, is_some}
-use Rattle.jb_area.specs.Area.{IsBegun, IsResting, RestsAt, commits_of, copied_of, device_of, loaded_of, rules_of}
+use Rattle.jb_area.specs.Area.{IsBegun, IsResting, RestsAt, commits_of, copied_of, device_of, loaded_of, packs_of, rules_of}
 use Rattle.jb_area.specs.Calls.{BeginsCall, MeetsCall, OnlyReadsOrCopies}
 use Rattle.jb_area.specs.Holds.{Opens}
 use Rattle.jb_area.specs.declared.area.OpenArea.{OpenArea}
@@ -47,8 +47,8 @@ module _ {D : Type 0} (shown : D → Device) where
   -- a call that is abandoned wanted memory, and has left all as it was
   pub meets_abandoned : (old mid new : OpenArea D) (user : User) (moment : ℕ) (command : Command) (value : Unit {0}) → BeginsCall shown old mid user moment command (Ok value)
       → ((texts : List ℕ) (decided : Reply) (coming : Coming) → IsBegun shown mid texts decided coming → RestsAt shown new texts (loaded_of mid)) → device_of shown new ≡ device_of shown mid → rules_of new ≡ rules_of mid
-      → copied_of new ≡ copied_of mid → commits_of new ≡ commits_of mid → MeetsCall shown old new user moment command (Err area.OutOfMemory)
-  meets_abandoned old mid new user moment command value begins rests device rules copied commits =
+      → copied_of new ≡ copied_of mid → commits_of new ≡ commits_of mid → packs_of new ≡ packs_of mid → MeetsCall shown old new user moment command (Err area.OutOfMemory)
+  meets_abandoned old mid new user moment command value begins rests device rules copied commits packs =
       let refused : Result Reply AreaError = Err area.OutOfMemory in
       record {
         answered = tt;
@@ -63,6 +63,7 @@ module _ {D : Type 0} (shown : D → Device) where
         copies = λ kind. copied ∙ begins.copies kind;
         packed = tt;
         unspent = λ wanting. commits ∙ begins.commits;
+        unpacked = λ wanting. packs ∙ begins.packs;
       }
 
   -- whatever a crash leaves meanwhile

@@ -4,7 +4,7 @@ use Rattle.std.specs.Prelude.{IsSome, unwrap_or}
 use Rattle.jb_area.specs.Area.{IsDoubtful, SettlesAt, device_of, loaded_of, rules_of}
 use Rattle.jb_area.specs.declared.area.OpenArea.{OpenArea}
 use Rattle.jb_area.specs.declared.stage.Stage.{Stage}
-use Rattle.jb_area.specs.declared.stage.Stage.TheVariants.{Doubtful, Resting}
+use Rattle.jb_area.specs.declared.stage.Stage.TheVariants.{Copying, Doubtful, Resting}
 use Rattle.jb_base.specs.declared.area.AreaRules.{AreaRules}
 use Rattle.jb_base.specs.declared.user.User.{User}
 use Rattle.jb_decide.specs.Coming.{Coming}
@@ -66,6 +66,12 @@ module _ {D : Type 0} (shown : D → Device) where
       let nothing : Pending = record { change = Nothing; room = no_room } in
       let is : Some nothing ≡ Some doubt.pending = ap pending_of (sym none.stage ∙ doubt.stage) in
       doubt.change.some (ap (λ (o : Option Pending). (unwrap_or o nothing).change) (sym is))
+
+  -- and one at rest is in no doubt at all
+  pub rests_no_doubt : (area : OpenArea D) (texts : List ℕ) (coming : Option Coming) → area.stage ≡ Resting → IsDoubtful shown area texts coming → ⊥
+  rests_no_doubt area texts None rests (inl none) = let is : None ≡ Some (record { change = Nothing; room = no_room }) = ap pending_of (sym rests ∙ none.stage) in absurd (cc (is))
+  rests_no_doubt area texts None rests (inr half) = let is : Resting ≡ Copying = sym rests ∙ half.stage in absurd (cc (is))
+  rests_no_doubt area texts (Some coming) rests doubt = rests_no_change area rests (texts, coming, doubt)
 
   -- where an area that stands settled is: at a state, whose index is the one that looks see, and the edits make of it that after the command
   pub index_after : (area : OpenArea D) (opening : Opening) (history : List Entry) (index : AreaIndex) (user : User) (moment : ℕ) (command : Command) (edits : List OpEdit)

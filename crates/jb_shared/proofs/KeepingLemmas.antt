@@ -1,7 +1,8 @@
 -- What looks see, and the area that lies beside it, with one entry more.
 use Rattle.std.proofs.Common.{◌≡◌, ℕ, ◌+◌, ◌≤◌, Bool, true, false, cond, List, [], ◌∷◌, ◌++◌, length, Result, Ok, Err, Option, None, Some, refl, sym, ◌∙◌, ap, subst, arith, length-append}
 use mathlib.Core.List.{IsPrefix}
-use Rattle.jb_area.specs.Area.{HasDoubt, IsDoubtful, IsResting, SettlesAt, device_of, loaded_of, rules_of}
+use Rattle.std.specs.Prelude.{if◌then◌else◌}
+use Rattle.jb_area.specs.Area.{HasDoubt, IsDoubtful, IsResting, SettlesAt, device_of, loaded_of, packs_of, packs_to, rules_of}
 use Rattle.jb_area.specs.Calls.{HasRest, MeetsCall}
 use Rattle.jb_area.specs.declared.area.OpenArea.{OpenArea}
 use Rattle.jb_bytes.specs.Fault.{Rose}
@@ -150,10 +151,11 @@ module _ {D : Type 0} (shown : D → Device) where
   pub shows_reopened : (old : ShownArea D) (area : OpenArea D) (mark : PairMark Opening) (history : List Entry) (stands : Bool) → IsKeptInDoubt shown old mark history
       → ((texts : List ℕ) (coming : Option Coming) → IsDoubtful shown old.area texts coming → SettlesAt shown stands (loaded_of old.area) texts coming area)
       → LeavesDoubt shown old.area area → rules_of area ≡ rules_of old.area → TellsAlike (device_of shown old.area) (device_of shown area) → (device_of shown area).faults ≡ (device_of shown old.area).faults
+      → packs_of area ≡ (if stands then packs_to old.area else packs_of old.area)
       → ((publication_of old.shower).mark ≡ Some mark) × IsShownAs (value_with old stands) mark.opening (history ++ Reopened stands ∷ [])
-  shows_reopened old area mark history stands kept settled crash rules alike quiet = (
+  shows_reopened old area mark history stands kept settled crash rules alike quiet counted = (
     kept.index.pair,
-    shows_settled area mark.opening history (Reopened stands) (value_with old stands) (stands_reopened shown old.area area mark.opening history stands kept.area settled crash rules alike quiet).0 refl
+    shows_settled area mark.opening history (Reopened stands) (value_with old stands) (stands_reopened shown old.area area mark.opening history stands kept.area settled crash rules alike quiet counted).0 refl
         (λ t. index_reopened shown old.area area mark.opening history (publication_of old.shower).value old.doubted.op stands kept.area settled t (kept.index.value t) kept.index.doubted),
   )
 
@@ -161,11 +163,12 @@ module _ {D : Type 0} (shown : D → Device) where
   pub kept_reopened : (old new : ShownArea D) (area : OpenArea D) (mark : PairMark Opening) (history : List Entry) (stands : Bool) → IsKeptInDoubt shown old mark history
       → ((texts : List ℕ) (coming : Option Coming) → IsDoubtful shown old.area texts coming → SettlesAt shown stands (loaded_of old.area) texts coming area)
       → LeavesDoubt shown old.area area → rules_of area ≡ rules_of old.area → TellsAlike (device_of shown old.area) (device_of shown area) → (device_of shown area).faults ≡ (device_of shown old.area).faults
+      → packs_of area ≡ (if stands then packs_to old.area else packs_of old.area)
       → new.area ≡ area → publication_of new.shower ≡ published_with (publication_of old.shower) (value_with old stands) (history ++ Reopened stands ∷ [])
       → IsKeptSettled shown new mark (history ++ Reopened stands ∷ [])
-  kept_reopened old new area mark history stands kept settled crash rules alike quiet same published =
+  kept_reopened old new area mark history stands kept settled crash rules alike quiet counted same published =
       let ends : StandsSettled shown new.area mark.opening (history ++ Reopened stands ∷ [])
-      = subst (λ (a : OpenArea D). StandsSettled shown a mark.opening (history ++ Reopened stands ∷ [])) (sym same) (stands_reopened shown old.area area mark.opening history stands kept.area settled crash rules alike quiet).0 in
+      = subst (λ (a : OpenArea D). StandsSettled shown a mark.opening (history ++ Reopened stands ∷ [])) (sym same) (stands_reopened shown old.area area mark.opening history stands kept.area settled crash rules alike quiet counted).0 in
       record {
         area = ends;
         index =
@@ -176,13 +179,14 @@ module _ {D : Type 0} (shown : D → Device) where
   -- a doubt that could not be ended
   pub kept_not_begun : (old new : ShownArea D) (area : OpenArea D) (mark : PairMark Opening) (history : List Entry) (node call : ℕ) (user : User) (moment : ℕ) (command : Command) → IsKeptInDoubt shown old mark history
       → ((texts : List ℕ) (coming : Option Coming) → IsDoubtful shown old.area texts coming → IsDoubtful shown area texts coming) → loaded_of area ≡ loaded_of old.area → LeavesDoubt shown old.area area → ReadsDoubt shown old.area area
-      → rules_of area ≡ rules_of old.area → TellsAlike (device_of shown old.area) (device_of shown area) → Rose (device_of shown old.area).faults (device_of shown area).faults → call ≡ length (calls_of node history) + 1
+      → rules_of area ≡ rules_of old.area → TellsAlike (device_of shown old.area) (device_of shown area) → Rose (device_of shown old.area).faults (device_of shown area).faults
+      → (packs_of area ≡ packs_of old.area) × (packs_to area ≡ packs_to old.area) → call ≡ length (calls_of node history) + 1
       → new ≡ record { area = area; shower = old.shower; doubted = old.doubted }
       → IsKept shown new mark (history ++ Called node call user moment command (NotBegun (device_of shown area).faults) ∷ [])
-  kept_not_begun old new area mark history node call user moment command kept still loaded crash reads rules alike rose next same =
+  kept_not_begun old new area mark history node call user moment command kept still loaded crash reads rules alike rose counts next same =
       let entry : Entry = Called node call user moment command (NotBegun (device_of shown area).faults) in
       subst (λ (s : ShownArea D). IsKept shown s mark (history ++ entry ∷ [])) (sym same) record {
-        area = (stands_not_begun shown old.area area mark.opening history node call user moment command kept.area still loaded crash reads rules alike rose next).0;
+        area = (stands_not_begun shown old.area area mark.opening history node call user moment command kept.area still loaded crash reads rules alike rose counts next).0;
         index =
             published_stopped old (record { area = area; shower = old.shower; doubted = old.doubted }) mark history entry kept.index refl refl
             (λ t. index_not_begun shown old.area mark.opening history (publication_of old.shower).value node call user moment command (device_of shown area).faults kept.area t (kept.index.value t))

@@ -1,6 +1,7 @@
 pub mod SettledLemmas
 pub mod HistoryLemmas
 pub mod StopLemmas
+pub mod TextLemmas
 pub mod StandingLemmas
 pub mod PassLemmas
 pub mod IndexLemmas
@@ -12,3 +13,5 @@ pub mod DoingLemmas
 pub mod SteppingLemmas
 pub mod MakingLemmas
 pub mod ClosingLemmas
+pub mod ReadingLemmas
+pub mod BackingLemmas

@@ -4,7 +4,7 @@ use Rattle.std.specs.Option.{option_map, ForSome}
 use Rattle.std.specs.Prelude.{is_some, unwrap_or, IsSome}
 use Rattle.std.proofs.lemmas.Option.{slice_get-get_or}
 use mathlib.Core.List.{IsPrefix}
-use Rattle.jb_area.specs.Area.{device_of, loaded_of, rules_of}
+use Rattle.jb_area.specs.Area.{IsResting, device_of, loaded_of, rules_of}
 use Rattle.jb_area.specs.Calls.{HasRest}
 use Rattle.jb_area.specs.Holds.{IsAtRest}
 use Rattle.jb_area.specs.declared.area.OpenArea.{OpenArea}
@@ -72,11 +72,12 @@ module _ {D : Type 0} (shown : D → Device) where
         record {
           rules = refl;
           history = legal;
-          faults = refl;
+          faults = omega arith;
           told = same_told device.contents;
           at = at;
           kind = refl;
           leads = leads;
+          text_files = λ t. (subst (IsResting shown area) (told_texts device.contents (loaded_of area) rest.texts t rest.rests.kept.settled.rests) rest.rests, refl);
           opens = shows;
           crash = λ t. comes_by_none opening device refl (shows t).left;
         },

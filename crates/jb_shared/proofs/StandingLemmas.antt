@@ -1,15 +1,18 @@
 -- What each answer of an area makes of the history for which it stands.
-use Rattle.std.proofs.Common.{◌≡◌, ℕ, ◌+◌, Bool, true, false, cond, List, [], ◌∷◌, ◌++◌, length, Ok, Err, Option, Some, None, inl, refl, sym, ◌∙◌, ap, subst, arith}
-use Rattle.std.specs.Prelude.{is_some, not, IfSome}
+use Rattle.std.proofs.Common.{◌≡◌, ℕ, ◌+◌, ◌≤◌, Bool, true, false, cond, List, [], ◌∷◌, ◌++◌, length, Ok, Err, Option, Some, None, inl, refl, sym, ◌∙◌, ap, subst, arith}
+use Rattle.std.specs.Prelude.{is_some, not, if◌then◌else◌, IfSome}
 use Rattle.std.specs.Option.{ForSome}
-use Rattle.jb_area.specs.Area.{device_of, loaded_of, rules_of, DoubtOpens, HasDoubt, IsDoubtful, IsResting, SettlesAt}
+use Rattle.jb_area.specs.Area.{device_of, loaded_of, packs_of, packs_to, rules_of, DoubtOpens, HasDoubt, IsDoubtful, IsResting, SettlesAt}
 use Rattle.jb_area.specs.Calls.{HasRest, IsChangeOf, MeetsCall}
+use Rattle.jb_area.specs.Commits.{packs_with}
 use Rattle.jb_area.specs.Holds.{Opens, OpensToEither}
 use Rattle.jb_area.specs.declared.area.OpenArea.{OpenArea}
 use Rattle.jb_bytes.specs.Fault.{Rose}
 use Rattle.jb_base.specs.declared.area.AreaRules.{AreaRules}
 use Rattle.jb_base.specs.declared.user.User.{User}
-use Rattle.jb_decide.specs.Coming.{Coming}
+use Rattle.jb_decide.specs.Coming.{Coming, coming_of}
+use Rattle.jb_decide.specs.StepOf.{written_text}
+use Rattle.jb_decide.specs.Telling.{IsToldBy}
 use Rattle.jb_decide.specs.declared.error.AreaError.TheVariants as area
 use Rattle.jb_disk.specs.Device.{Device, TellsAlike}
 use Rattle.jb_disk.specs.Files.{Files}
@@ -19,6 +22,7 @@ use Rattle.jb_model.specs.Answered.{Answered}
 use Rattle.jb_model.specs.History.{IsNextCall, calls_of, faults_of, last_faults}
 use Rattle.jb_model.specs.Standing.{Standing, Settled, InDoubt, Allows, StandsWithin, after_entry, change_of, is_refusal, is_settled}
 use Rattle.jb_state.specs.State.{AreaState, state_of}
+use Rattle.jb_state.specs.declared.change.Change.{Change}
 use Rattle.jb_model.specs.Step.{step}
 use Rattle.jb_model.specs.declared.command.Command.{Command}
 use Rattle.jb_model.specs.declared.entry.Entry.{Entry}
@@ -31,9 +35,11 @@ use Rattle.jb_shared.specs.Histories.{IsHistory, Tells, first_state, leads_to}
 use Rattle.jb_shared.specs.Keeping.{LeavesAsIs}
 use Rattle.jb_shared.specs.Standing.{IsAt, LeavesBetween, StandsAt, StandsForHistory, StandsInDoubt, StandsSettled, doubt_between, state_to}
 use Rattle.jb_shared.specs.Stops.{OpensBetween, OpensAtLast}
+use Rattle.jb_shared.specs.Texts.{HasTextFiles, IsTextFileOf, TextFile, TextFiles, file_answered, files_after_entry, text_file_after, text_files_at}
 use Rattle.jb_shared.specs.declared.opening.Opening.{Opening}
 use Rattle.jb_shared.proofs.HistoryLemmas.{history_push, last_new, last_same, rose_from, stopped_push}
 use Rattle.jb_shared.proofs.StopLemmas.{comes_by_more, comes_by_still, leaves_newest, only_weaken, opens_doubt, opens_either, opens_first, opens_last, opens_same, opens_settled, settled_shows, told_gives}
+use Rattle.jb_shared.proofs.TextLemmas.{comes_to, one_text, text_files_push}
 
 -- the reply of an area is that of the state for which it stands
 stepped : (opening : Opening) (state its : AreaState) (user : User) (moment : ℕ) (command : Command) (reply : Reply) (after : AreaState) (rules : AreaRules) → rules ≡ opening.rules → its ≡ state
@@ -63,13 +69,14 @@ module _ {D : Type 0} (shown : D → Device) where
 
   -- the area stands for one entry more
   stands_push : (old new : OpenArea D) (opening : Opening) (history : List Entry) (entry : Entry) (standing standing' : Standing) → StandsAt shown old opening history standing
-      → rules_of new ≡ rules_of old → TellsAlike (device_of shown old) (device_of shown new) → IsNextCall history entry → last_faults opening.faults (history ++ entry ∷ []) ≡ (device_of shown new).faults
+      → rules_of new ≡ rules_of old → TellsAlike (device_of shown old) (device_of shown new) → IsNextCall history entry → last_faults opening.faults (history ++ entry ∷ []) ≤ (device_of shown new).faults
       → IfSome (faults_of entry) (λ told. Rose (last_faults opening.faults history) told) → (Tells opening → Allows opening.rules standing entry)
       → is_settled standing' ≡ not (is_some (faults_of entry))
       → IsAt shown new standing' → (Tells opening → standing' ≡ after_entry opening.rules standing entry)
+      → (Tells opening → HasTextFiles shown new standing' (files_after_entry opening.rules standing entry (text_files_at opening history)))
       → (Tells opening → IsHistory opening (history ++ entry ∷ []) → leads_to opening (history ++ entry ∷ []) ≡ standing' → Stops old new opening history (history ++ entry ∷ []))
       → StandsAt shown new opening (history ++ entry ∷ []) standing' × LeavesBetween shown old new opening history (history ++ entry ∷ [])
-  stands_push old new opening history entry standing standing' stands rules alike next last risen allow kind at leads stops =
+  stands_push old new opening history entry standing standing' stands rules alike next last risen allow kind at leads holds stops =
       let legal : IsHistory opening (history ++ entry ∷ []) = history_push opening history entry stands.history next risen (λ t. subst (λ (s : Standing). Allows opening.rules s entry) (stands.leads t) (allow t)) in
       let goes : Tells opening → standing' ≡ leads_to opening (history ++ entry ∷ [])
       = λ t. leads t ∙ ap (λ (s : Standing). after_entry opening.rules s entry) (stands.leads t) ∙ sym (standing_after_push opening.rules (first_state opening) history entry) in
@@ -82,10 +89,28 @@ module _ {D : Type 0} (shown : D → Device) where
           at = at;
           kind = kind ∙ ap not (sym (stopped_push false history entry));
           leads = goes;
+          text_files = λ t. subst (HasTextFiles shown new standing') (sym (text_files_push opening history entry standing (stands.leads t))) (holds t);
           opens = λ t. (stopped t).1;
           crash = λ t. comes_by_more opening (device_of shown old) (device_of shown new) history entry (stands.crash t) (stopped t).0 (stopped t).1.left;
         },
         λ t. (stopped t).0,
+      )
+
+  -- the texts and the packs that an answered change comes to are those of its answer
+  answered_file : (old : OpenArea D) (opening : Opening) (state : AreaState) (texts : List ℕ) (user : User) (moment : ℕ) (command : Command) (reply : Reply) (change : Change) (coming : Coming) (file : TextFile)
+      → IsResting shown old texts → texts ≡ file.bytes → coming ≡ coming_of change (loaded_of old) (written_text command) texts → IsToldBy reply change
+      → step opening.rules state user moment command ≡ record { reply = reply; state = state_to coming }
+      → (coming.texts ≡ (file_answered command (step opening.rules state user moment command) file).bytes)
+      × ((packs : ℕ) → packs ≡ packs_with change (packs_of old) → packs_of old ≡ file.packs → packs ≡ (file_answered command (step opening.rules state user moment command) file).packs)
+  answered_file old opening state texts user moment command reply change coming file rests texts_are becomes told is =
+      let ruled = rests.kept.ruled in
+      let comes : coming ≡ coming_of change (loaded_of old) (written_text command) file.bytes = becomes ∙ ap (coming_of change (loaded_of old) (written_text command)) texts_are in
+      let to : TextFile = text_file_after command reply (state_to (coming_of change (loaded_of old) (written_text command) file.bytes)) file in
+      let answered : file_answered command (step opening.rules state user moment command) file ≡ to
+      = ap (λ (a : Answered). file_answered command a file) is ∙ ap (λ (c : Coming). text_file_after command reply (state_to c) file) comes in
+      let by = comes_to change (rules_of old).slots (loaded_of old) command reply file ruled.sound (ap length (sym texts_are) ∙ ruled.sized) told in (
+        ap (λ (c : Coming). c.texts) comes ∙ by.0 ∙ sym (ap (λ (f : TextFile). f.bytes) answered),
+        λ packs counted before. counted ∙ ap (packs_with change) before ∙ by.1 ∙ sym (ap (λ (f : TextFile). f.packs) answered),
       )
 
   -- a call that was answered: the area is settled
@@ -101,8 +126,14 @@ module _ {D : Type 0} (shown : D → Device) where
       let same : last_faults opening.faults (history ++ entry ∷ []) ≡ last_faults opening.faults history = last_same opening.faults history entry refl in
       let after : IsAt shown new (Settled (state_to done.coming)) = (done.coming.texts, done.rests.rests, ap (state_of done.coming.texts) done.rests.is) in
       let pushed =
-      stands_push old new opening history entry (Settled state) (Settled (state_to done.coming)) stands meets.rules meets.alike next (same ∙ stands.faults ∙ sym meets.faults.quiet) tt
+      stands_push old new opening history entry (Settled state) (Settled (state_to done.coming)) stands meets.rules meets.alike next (omega (arith, same, stands.faults, meets.faults.quiet)) tt
       (λ t. ap (λ (a : Answered). a.reply) (is t)) refl after (λ t. ap (λ (a : Answered). Settled a.state) (sym (is t)))
+      (λ t.
+      let files = text_files_at opening history in
+      let held = stands.text_files t in
+      let file =
+      answered_file old opening state at.0 user moment command reply done.change done.coming files.now at.1 (one_text shown old at.0 files.now.bytes (stands.told ∙ t) at.1 held.0) done.becomes done.told (is t) in
+      (subst (IsResting shown new) file.0 done.rests.rests, file.1 (packs_of new) done.packs_counted held.1))
       (λ t legal ends. (
         only_weaken (OpensToEither (loaded_of old) at.0 done.coming) (OpensBetween opening history (history ++ entry ∷ [])) (device_of shown old) (device_of shown new)
             (λ files opens. opens_either opening history entry state (state_to done.coming) (loaded_of old) at.0 done.coming files stands.history (sym (stands.leads t)) at.2 legal ends refl opens)
@@ -129,18 +160,29 @@ module _ {D : Type 0} (shown : D → Device) where
   -- the doubt of a call that was stopped
   doubt_at : (old new : OpenArea D) (opening : Opening) (state : AreaState) (texts : List ℕ) (user : User) (moment : ℕ) (command : Command) (coming : Option Coming)
       → rules_of old ≡ opening.rules → state_of texts (loaded_of old) ≡ state → (Tells opening → is_some (device_of shown old).contents ≡ true)
-      → IsChangeOf shown old texts user moment command coming → IsDoubtful shown new texts coming → loaded_of new ≡ loaded_of old
+      → IsChangeOf shown old new texts user moment command coming → IsDoubtful shown new texts coming → loaded_of new ≡ loaded_of old
       → (after : Option AreaState) × IsAt shown new (InDoubt state after) × (Tells opening → after ≡ change_of (step opening.rules state user moment command))
       × StandsWithin (doubt_between texts (loaded_of old) coming) (InDoubt state after)
   doubt_at old new opening state texts user moment command None rules is told change doubt loaded =
       (change_of (step opening.rules state user moment command), (texts, None, doubt, ap (state_of texts) loaded ∙ is), λ t. refl, is)
-  doubt_at old new opening state texts user moment command (Some coming) rules is told (reply, change, other, fits, becomes, somewhere, answered) doubt loaded = (
+  doubt_at old new opening state texts user moment command (Some coming) rules is told (reply, change, other, fits, becomes, somewhere, answered, says, counted) doubt loaded = (
     Some (state_to coming),
     (texts, Some coming, doubt, (ap (state_of texts) loaded ∙ is, refl)),
     λ t. sym (changed (step opening.rules state user moment command) reply (state_to coming) (is_refusal reply) refl (λ refuses. other (inl refuses))
         (stepped opening state (state_of texts (loaded_of old)) user moment command reply (state_to coming) (rules_of old) rules is (answered (λ letter text. told t)))),
     (is, refl),
   )
+
+  -- and the texts and the packs to which it comes
+  doubt_file : (old new : OpenArea D) (opening : Opening) (state : AreaState) (texts : List ℕ) (user : User) (moment : ℕ) (command : Command) (coming : Option Coming) (file : TextFile)
+      → rules_of old ≡ opening.rules → state_of texts (loaded_of old) ≡ state → is_some (device_of shown old).contents ≡ true → IsResting shown old texts → texts ≡ file.bytes → packs_of old ≡ file.packs
+      → IsChangeOf shown old new texts user moment command coming → IsTextFileOf new coming (file_answered command (step opening.rules state user moment command) file)
+  doubt_file old new opening state texts user moment command None file rules is told rests texts_are packs change = tt
+  doubt_file old new opening state texts user moment command (Some coming) file rules is told rests texts_are packs (reply, change, other, fits, becomes, somewhere, answered, says, counted) =
+      let by =
+      answered_file old opening state texts user moment command reply change coming file rests texts_are becomes says
+      (stepped opening state (state_of texts (loaded_of old)) user moment command reply (state_to coming) (rules_of old) rules is (answered (λ letter text. told))) in
+      (by.0, by.1 (packs_to new) counted packs)
 
   -- a call that the device stopped
   pub stands_stopped : (old new : OpenArea D) (opening : Opening) (history : List Entry) (node call : ℕ) (user : User) (moment : ℕ) (command : Command)
@@ -153,11 +195,20 @@ module _ {D : Type 0} (shown : D → Device) where
       let doubt = doubt_at old new opening state at.0 user moment command stopped.coming stands.rules at.2 (λ t. stands.told ∙ t) stopped.change stopped.doubt stopped.loaded in
       let entry : Entry = Called node call user moment command (LeftInDoubt (device_of shown new).faults) in
       let last : last_faults opening.faults (history ++ entry ∷ []) ≡ (device_of shown new).faults = last_new opening.faults history entry (device_of shown new).faults refl in
-      let rose = rose_from (last_faults opening.faults history) (device_of shown old).faults (device_of shown new).faults (omega (arith, stands.faults)) meets.faults.cause in
+      let rose = rose_from (last_faults opening.faults history) (device_of shown old).faults (device_of shown new).faults stands.faults meets.faults.cause in
       let within : StandsWithin (doubt_between at.0 (loaded_of old) stopped.coming) (InDoubt state doubt.0) = doubt.3 in
       let pushed =
-      stands_push old new opening history entry (Settled state) (InDoubt state doubt.0) stands meets.rules meets.alike next last rose (λ t. tt)
+      stands_push old new opening history entry (Settled state) (InDoubt state doubt.0) stands meets.rules meets.alike next (omega (arith, last)) rose (λ t. tt)
       refl doubt.1 (λ t. ap (InDoubt state) (doubt.2 t))
+      (λ t.
+      let files = text_files_at opening history in
+      let held = stands.text_files t in
+      let texts_are : at.0 ≡ files.now.bytes = one_text shown old at.0 files.now.bytes (stands.told ∙ t) at.1 held.0 in (
+        stopped.coming,
+        subst (λ (l : List ℕ). IsDoubtful shown new l stopped.coming) texts_are stopped.doubt,
+        stopped.packs ∙ held.1,
+        doubt_file old new opening state at.0 user moment command stopped.coming files.now stands.rules at.2 (stands.told ∙ t) at.1 texts_are held.1 stopped.change,
+      ))
       (λ t legal ends. in_doubt old new opening history entry state doubt.0 (loaded_of old) at.0 stopped.coming within legal ends
       (told_gives (device_of shown old).contents _ (stands.told ∙ t) stopped.crash) stopped.opens) in
       ((InDoubt state doubt.0, pushed.0), pushed.1)
@@ -179,11 +230,14 @@ module _ {D : Type 0} (shown : D → Device) where
           record {
             rules = meets.rules ∙ stands.rules;
             history = stands.history;
-            faults = stands.faults ∙ sym meets.faults.cause;
+            faults = omega (arith, stands.faults, meets.faults.cause);
             told = meets.alike ∙ stands.told;
             at = now;
             kind = stands.kind;
             leads = stands.leads;
+            text_files = λ t.
+                let held = stands.text_files t in
+                (subst (IsResting shown new) (one_text shown old at.0 (text_files_at opening history).now.bytes (stands.told ∙ t) at.1 held.0) failed.0.rests, meets.unpacked refl ∙ held.1);
             opens = λ t. settled_shows shown new opening history state now (meets.alike ∙ stands.told ∙ t) stands.history (sym (stands.leads t));
             crash = λ t. comes_by_still opening (device_of shown old) (device_of shown new) history (stands.crash t) (leaves t);
           },
@@ -206,17 +260,34 @@ module _ {D : Type 0} (shown : D → Device) where
     subst (λ (a : Option AreaState). Allows opening.rules (InDoubt before a) (Reopened true)) (sym within.1) tt,
   )
 
+  -- and the texts and the packs that it has there
+  ends_with : (old new : OpenArea D) (opening : Opening) (before : AreaState) (after : Option AreaState) (stands : Bool) (texts : List ℕ) (coming : Option Coming) (files : TextFiles) (state : AreaState)
+      → StandsWithin (doubt_between texts (loaded_of old) coming) (InDoubt before after) → SettlesAt shown stands (loaded_of old) texts coming new
+      → ((texts : List ℕ) (coming : Option Coming) → IsDoubtful shown old texts coming → SettlesAt shown stands (loaded_of old) texts coming new)
+      → packs_of new ≡ (if stands then packs_to old else packs_of old) → HasTextFiles shown old (InDoubt before after) files
+      → HasTextFiles shown new (Settled state) (files_after_entry opening.rules (InDoubt before after) (Reopened stands) files)
+  ends_with old new opening before after false texts coming files state within settles settled counted (change, doubt, packs, to) = ((settled files.now.bytes change doubt).rests, counted ∙ packs)
+  ends_with old new opening before after true texts None files state within settles settled counted held = absurd settles
+  ends_with old new opening before after true texts (Some coming) files state within settles settled counted (change, doubt, packs, to) =
+      subst (λ (a : Option AreaState). HasTextFiles shown new (Settled state) (files_after_entry opening.rules (InDoubt before a) (Reopened true) files)) (sym within.1) (came change (settled files.now.bytes change doubt) to)
+    where
+      came : (change : Option Coming) → SettlesAt shown true (loaded_of old) files.now.bytes change new → IsTextFileOf old change files.coming → IsResting shown new files.coming.bytes × (packs_of new ≡ files.coming.packs)
+      came None settles to = absurd settles
+      came (Some change) settles to = (subst (IsResting shown new) to.0 settles.rests, counted ∙ to.1)
+
   -- a doubt that is ended
   pub stands_reopened : (old new : OpenArea D) (opening : Opening) (history : List Entry) (stands : Bool) → StandsInDoubt shown old opening history
       → ((texts : List ℕ) (coming : Option Coming) → IsDoubtful shown old texts coming → SettlesAt shown stands (loaded_of old) texts coming new)
       → LeavesDoubt old new → rules_of new ≡ rules_of old → TellsAlike (device_of shown old) (device_of shown new) → (device_of shown new).faults ≡ (device_of shown old).faults
+      → packs_of new ≡ (if stands then packs_to old else packs_of old)
       → StandsSettled shown new opening (history ++ Reopened stands ∷ []) × LeavesBetween shown old new opening history (history ++ Reopened stands ∷ [])
-  stands_reopened old new opening history stands (before, after, was) settled crash rules alike quiet =
+  stands_reopened old new opening history stands (before, after, was) settled crash rules alike quiet counted =
       let at = was.at in
       let end = ends_at old new opening before after stands at.0 at.1 at.3 (settled at.0 at.1 at.2) in
       let same : last_faults opening.faults (history ++ Reopened stands ∷ []) ≡ last_faults opening.faults history = last_same opening.faults history (Reopened stands) refl in
       let pushed =
-      stands_push old new opening history (Reopened stands) (InDoubt before after) (Settled end.0) was rules alike tt (same ∙ was.faults ∙ sym quiet) tt (λ t. end.3) refl end.1 (λ t. end.2)
+      stands_push old new opening history (Reopened stands) (InDoubt before after) (Settled end.0) was rules alike tt (omega (arith, same, was.faults, quiet)) tt (λ t. end.3) refl end.1 (λ t. end.2)
+      (λ t. ends_with old new opening before after stands at.0 at.1 (text_files_at opening history) end.0 at.3 (settled at.0 at.1 at.2) settled counted (was.text_files t))
       (λ t legal ends. (
         only_weaken (DoubtOpens (loaded_of old) at.0 at.1) (OpensBetween opening history (history ++ Reopened stands ∷ [])) (device_of shown old) (device_of shown new)
             (λ files opens. opens_first opening history (Reopened stands) files (opens_doubt opening history before after (loaded_of old) at.0 at.1 files was.history (sym (was.leads t)) at.3 opens))
@@ -225,21 +296,31 @@ module _ {D : Type 0} (shown : D → Device) where
       )) in
       ((end.0, pushed.0), pushed.1)
 
+  -- what a doubt comes to stays
+  pub comes_still : (old new : OpenArea D) (coming : Option Coming) (file : TextFile) → packs_to new ≡ packs_to old → IsTextFileOf old coming file → IsTextFileOf new coming file
+  comes_still old new None file same to = tt
+  comes_still old new (Some coming) file same to = (to.0, same ∙ to.1)
+
   -- a doubt that could not be ended
   pub stands_not_begun : (old new : OpenArea D) (opening : Opening) (history : List Entry) (node call : ℕ) (user : User) (moment : ℕ) (command : Command) → StandsInDoubt shown old opening history
       → ((texts : List ℕ) (coming : Option Coming) → IsDoubtful shown old texts coming → IsDoubtful shown new texts coming) → loaded_of new ≡ loaded_of old → LeavesDoubt old new → ReadsDoubt old new
-      → rules_of new ≡ rules_of old → TellsAlike (device_of shown old) (device_of shown new) → Rose (device_of shown old).faults (device_of shown new).faults → call ≡ length (calls_of node history) + 1
+      → rules_of new ≡ rules_of old → TellsAlike (device_of shown old) (device_of shown new) → Rose (device_of shown old).faults (device_of shown new).faults → (packs_of new ≡ packs_of old) × (packs_to new ≡ packs_to old)
+      → call ≡ length (calls_of node history) + 1
       → StandsForHistory shown new opening (history ++ Called node call user moment command (NotBegun (device_of shown new).faults) ∷ [])
       × LeavesBetween shown old new opening history (history ++ Called node call user moment command (NotBegun (device_of shown new).faults) ∷ [])
-  stands_not_begun old new opening history node call user moment command (before, after, was) still loaded crash reads rules alike rose next =
+  stands_not_begun old new opening history node call user moment command (before, after, was) still loaded crash reads rules alike rose counts next =
       let at = was.at in
       let entry : Entry = Called node call user moment command (NotBegun (device_of shown new).faults) in
       let last : last_faults opening.faults (history ++ entry ∷ []) ≡ (device_of shown new).faults = last_new opening.faults history entry (device_of shown new).faults refl in
-      let risen = rose_from (last_faults opening.faults history) (device_of shown old).faults (device_of shown new).faults (omega (arith, was.faults)) rose in
+      let risen = rose_from (last_faults opening.faults history) (device_of shown old).faults (device_of shown new).faults was.faults rose in
       let pushed =
-      stands_push old new opening history entry (InDoubt before after) (InDoubt before after) was rules alike next last risen (λ t. tt)
+      stands_push old new opening history entry (InDoubt before after) (InDoubt before after) was rules alike next (omega (arith, last)) risen (λ t. tt)
       refl
       (at.0, at.1, still at.0 at.1 at.2, subst (λ (l : Loaded). StandsWithin (doubt_between at.0 l at.1) (InDoubt before after)) (sym loaded) at.3) (λ t. refl)
+      (λ t.
+      let files = text_files_at opening history in
+      let held = was.text_files t in
+      (held.0, still files.now.bytes held.0 held.1, counts.0 ∙ held.2, comes_still old new held.0 files.coming counts.1 held.3))
       (λ t legal ends. in_doubt old new opening history entry before after (loaded_of old) at.0 at.1 at.3 legal ends
       (told_gives (device_of shown old).contents _ (was.told ∙ t) (crash at.0 at.1 at.2)) (reads at.0 at.1 at.2)) in
       ((InDoubt before after, pushed.0), pushed.1)

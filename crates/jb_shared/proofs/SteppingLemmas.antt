@@ -1,10 +1,11 @@
 -- A step of a pack, as a pack that was stopped or wanted memory; and what the steps make of what a pass knows.
 use Rattle.std.proofs.Common.{◌≡◌, inl, inr, ℕ, ◌+◌, ◌*◌, ◌/◌, ◌<◌, ◌≤◌, Bool, true, false, MatchBool, List, [], ◌∷◌, ◌++◌, length, Option, None, Some, Result, Ok, Err, is_some, IfSome, nat_lt, ltb-true, ltb-false, ◌^◌, refl, sym, ◌∙◌, ap, subst, arith}
 use Rattle.std.proofs.lemmas.Bool.{false≢true}
-use Rattle.jb_area.specs.Area.{IsResting, copied_of, loaded_of, rules_of}
+use Rattle.jb_area.specs.Area.{IsDoubtful, IsResting, copied_of, loaded_of, packs_in, packs_of, packs_to, rules_of}
 use Rattle.jb_area.specs.Calls.{FailsWith, HasRest, MeetsCall, StepsPack}
 use Rattle.jb_area.specs.Copying.{HasCopiedSome, begun_of}
 use Rattle.jb_area.specs.declared.area.OpenArea.{OpenArea}
+use Rattle.jb_area.specs.declared.stage.Stage.{Stage}
 use Rattle.jb_limits.specs.declared.limits.TheConstants.{MOST_ENTRIES}
 use Rattle.jb_pack.specs.declared.run.TheConstants.{PACK_STEP_BYTES}
 use Rattle.jb_base.specs.declared.user.User.{User}
@@ -43,10 +44,24 @@ use Rattle.jb_shared.proofs.KeepingLemmas.{kept_wanting, leaves_wanting}
 use Rattle.jb_shared.proofs.SettledLemmas.{begins_itself, begins_on}
 
 module _ {D : Type 0} (shown : D → Device) where
+  -- an area that was stopped without a change comes to no pack
+  comes_to_none : (area : OpenArea D) (texts : List ℕ) → IsDoubtful shown area texts None → packs_to area ≡ packs_of area
+  comes_to_none area texts (inl none) = ap (λ (s : Stage). packs_in s (packs_of area)) none.stage
+  comes_to_none area texts (inr half) = ap (λ (s : Stage). packs_in s (packs_of area)) half.stage
+
   -- what a step leaves that failed, a pack leaves that failed as it copied
   fails_as : (old new : OpenArea D) (user : User) (moment : ℕ) (error : AreaError) → StepsPack shown old new (Err error) → (texts : List ℕ) → IsResting shown old texts → FailsWith shown error old new texts user moment Pack
   fails_as old new user moment failing.StoreFault steps texts resting =
-      record { coming = None; change = tt; doubt = steps.failed texts resting; opens = steps.opens texts resting; loaded = steps.loaded; commits = steps.commits; crash = steps.crash texts resting }
+      record {
+        coming = None;
+        change = comes_to_none new texts (steps.failed texts resting) ∙ steps.packs;
+        doubt = steps.failed texts resting;
+        opens = steps.opens texts resting;
+        loaded = steps.loaded;
+        commits = steps.commits;
+        packs = steps.packs;
+        crash = steps.crash texts resting;
+      }
   fails_as old new user moment failing.OutOfMemory steps texts resting = (steps.failed texts resting, steps.touches)
 
   -- so to the history it is such a pack
@@ -60,6 +75,7 @@ module _ {D : Type 0} (shown : D → Device) where
     copies = λ none. absurd none;
     packed = tt;
     unspent = λ wanting. steps.commits;
+    unpacked = λ wanting. steps.packs;
   }
 
   -- a step that was done leaves what one leaves that wanted memory
@@ -74,6 +90,7 @@ module _ {D : Type 0} (shown : D → Device) where
     alike = steps.alike;
     loaded = steps.loaded;
     commits = steps.commits;
+    packs = steps.packs;
     rules = steps.rules;
     room = steps.room;
   }

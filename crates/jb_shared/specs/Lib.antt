@@ -2,6 +2,7 @@ pub mod Histories
 pub mod Standing
 pub mod Shows
 pub mod Stops
+pub mod Texts
 pub mod Passes
 pub mod Inside
 pub mod Begun
@@ -13,6 +14,9 @@ pub mod Areas
 pub mod Making
 pub mod Calls
 pub mod Stepping
+pub mod Reading
+pub mod Backing
+pub mod Backups
 pub mod Looks
 pub mod Closing
 pub mod Laws

@@ -1,6 +1,6 @@
 -- When an open area stands for a history.
-use Rattle.std.specs.Prelude.{◌≡◌, ℕ, not, List, length, Option, Some, None, is_some, option_map}
-use Rattle.jb_area.specs.Area.{device_of, loaded_of, rules_of, IsDoubtful, IsResting}
+use Rattle.std.specs.Prelude.{◌≡◌, ℕ, ◌≤◌, not, List, length, Option, Some, None, is_some, option_map}
+use Rattle.jb_area.specs.Area.{device_of, loaded_of, packs_of, rules_of, IsDoubtful, IsResting}
 use Rattle.jb_area.specs.declared.area.OpenArea.{OpenArea}
 use Rattle.jb_decide.specs.Coming.{Coming}
 use Rattle.jb_disk.specs.Device.{Device}
@@ -15,6 +15,7 @@ use Rattle.jb_state.specs.declared.loaded.Loaded.{Loaded}
 use Rattle.jb_turn.specs.Rows.{Begins}
 use Rattle.jb_shared.specs.Histories.{IsHistory, Tells, leads_to, stopped_last}
 use Rattle.jb_shared.specs.Stops.{ComesBy, OpensBetween, OpensAtLast}
+use Rattle.jb_shared.specs.Texts.{HasTextFiles, text_files_at}
 use Rattle.jb_shared.specs.declared.opening.Opening.{Opening}
 
 -- the node whose call an entry is; a reopening is nobody's
@@ -40,6 +41,7 @@ module _ {D : Type 0} (shown : D → Device) where
     texts = option_map (λ files. files Jdt) (device_of shown area).contents;
     faults = (device_of shown area).faults;
     moments = length (device_of shown area).moments;
+    packs = packs_of area;
   }
 
   -- the area rests, settled at this state; or a call was stopped, which left it between these two
@@ -52,18 +54,19 @@ module _ {D : Type 0} (shown : D → Device) where
   abbrev pub IsSomewhere : OpenArea D → Type 0
   IsSomewhere area = (standing : Standing) × IsAt area standing
 
-  -- the area stands so after the history: by the same rules, with a disk that tells as it did and has failed as often as the
-  -- history says; in doubt just where the device stopped the last call; and where the disk tells its files, just there where the
-  -- history leads. Then what is read, and what a crash leaves now, opens to the area after the history, and since the sharing the
-  -- disk has come by each part of it
+  -- the area stands so after the history: by the same rules, with a disk that tells as it did and has failed no less often than the
+  -- history says, since a backup reads it too; in doubt just where the device stopped the last call; and where the disk tells its
+  -- files, just there where the history leads, with the texts and the packs that it makes. Then what is read, and what a crash leaves
+  -- now, opens to the area after the history, and since the sharing the disk has come by each part of it
   pub record StandsAt (area : OpenArea D) (opening : Opening) (entries : List Entry) (standing : Standing) : Type 0 where
     pub rules : rules_of area ≡ opening.rules
     pub history : IsHistory opening entries
-    pub faults : last_faults opening.faults entries ≡ (device_of shown area).faults
+    pub faults : last_faults opening.faults entries ≤ (device_of shown area).faults
     pub told : is_some (device_of shown area).contents ≡ is_some opening.texts
     pub at : IsAt area standing
     pub kind : is_settled standing ≡ not (stopped_last entries)
     pub leads : Tells opening → standing ≡ leads_to opening entries
+    pub text_files : Tells opening → HasTextFiles shown area standing (text_files_at opening entries)
     pub opens : Tells opening → Shows (OpensAtLast opening entries) (device_of shown area)
     pub crash : Tells opening → (part : List Entry) → Begins part entries → ComesBy opening part entries (device_of shown area)
 

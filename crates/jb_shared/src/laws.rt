@@ -1,5 +1,6 @@
-//! What is settled of a history, in the words of the area's definition, and what no stop takes back.
+//! What is settled of a history, in the words of the area's definition, what no stop takes back, and what packs alone take back.
 ghost use Rattle.jb_shared.specs.Laws.{SettledIsLongest, ShownSurvivesStops};
+ghost use Rattle.jb_shared.specs.Texts.{TextsGoOn};
 
 use jb_disk::Disk;
 
@@ -16,4 +17,11 @@ pub fn settled_is_longest()
 /// It computes nothing: its contract is the law.
 pub fn shown_survives_stops<D: Disk>()
     ensures { ShownSurvivesStops D.device }
+{}
+
+/// While no pack that stands comes between, the texts that .JDT holds after a history begin those that it holds after a longer one.
+///
+/// It computes nothing: its contract is the law.
+pub fn texts_go_on()
+    ensures { TextsGoOn }
 {}

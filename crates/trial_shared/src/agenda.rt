@@ -1,6 +1,5 @@
 //! What a node does next.
 
-use crate::held::POSTS;
 use crate::noted::{Deed, Noted, Plan, Told};
 use jb_model::Reply;
 use trial_rows::Act;
@@ -47,7 +46,7 @@ impl<'a> Agenda<'a> {
             }
             Plan::Watch(_, looks) => looks.saturating_add(looks / 8),
             Plan::Between(_) if self.node == 1 => 1,
-            Plan::Between(_) => POSTS,
+            Plan::Between(meeting) | Plan::Beside(meeting, _) => meeting.most,
         }
     }
 
@@ -121,7 +120,7 @@ impl<'a> Agenda<'a> {
             }
             Plan::Watch(..) => Deed::Looked,
             Plan::Between(_) if self.node == 1 => Deed::Asked(Act::Pack, 0),
-            Plan::Between(meeting) => {
+            Plan::Between(meeting) | Plan::Beside(meeting, _) => {
                 meeting.come(self.done.saturating_add(1));
                 Deed::Asked(Act::Post, 0)
             }

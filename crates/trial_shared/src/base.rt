@@ -1,11 +1,12 @@
 //! The files of a base, and the area that they hold.
-ghost use Rattle.std.specs.Prelude.{IfOk};
+ghost use Rattle.std.specs.Prelude.{◌≤◌, IfOk, length};
 ghost use Rattle.jb_area.specs.Calls.{HasRest};
 ghost use Rattle.jb_disk.specs.Memory.{memory_device};
+ghost use Rattle.jb_limits.specs.declared.limits.TheConstants.{MOST_ADDRESS_BYTES, MOST_SLOTS};
 
 use jb_area::OpenArea;
-use jb_area_open::open_area;
-use jb_base::{Bytes, MOST_ADDRESS_BYTES, MOST_SLOTS, OutOfMemory};
+use jb_area_open::{OpeningError, open_area};
+use jb_base::{AreaRules, Bytes, MOST_ADDRESS_BYTES, MOST_SLOTS, OutOfMemory};
 use jb_disk::{Disk, FileId, MemDisk};
 use std::alloc::Global;
 use trial_rows::{Files, Row, RowError, Words, rules_of};
@@ -77,9 +78,10 @@ pub(crate) fn lengthened(alloc: Global, base: &Files, len: u32) -> Result<Files,
     Ok(files)
 }
 
-/// Opens the area on this disk.
-pub(crate) fn open_on<D: Disk + Drop>(alloc: Global, disk: D) -> Result<OpenArea<D>, RowError>
-    ensures { IfOk result (HasRest D.device) }
+// The rules of the area.
+fn rules(alloc: Global) -> Result<AreaRules, RowError>
+    ensures slots { IfOk result (λ rules. rules.slots ≤ MOST_SLOTS) }
+    ensures address { IfOk result (λ rules. length rules.address ≤ MOST_ADDRESS_BYTES) }
 {
     let Ok(rules) = rules_of(alloc, SLOTS) else {
         return Err(RowError::OutOfMemory);
@@ -87,9 +89,28 @@ pub(crate) fn open_on<D: Disk + Drop>(alloc: Global, disk: D) -> Result<OpenArea
     if rules.slots > MOST_SLOTS || rules.address.len() > MOST_ADDRESS_BYTES {
         return Err(RowError::Unknown(0));
     }
-    match open_area(alloc, disk, rules) {
+    Ok(rules)
+}
+
+/// Opens the area on this disk.
+pub(crate) fn open_on<D: Disk + Drop>(alloc: Global, disk: D) -> Result<OpenArea<D>, RowError>
+    ensures { IfOk result (HasRest D.device) }
+{
+    match open_area(alloc, disk, rules(alloc)?) {
         Ok(area) => Ok(area),
         Err(_) => Err(RowError::Unknown(0)),
+    }
+}
+
+/// How many messages are live in the area on this disk, or why it is not opened.
+pub(crate) fn live_on(alloc: Global, disk: MemDisk) -> Result<Result<u32, OpeningError>, RowError> {
+    match open_area(alloc, disk, rules(alloc)?) {
+        Ok(area) => {
+            let live = area.loaded().active;
+            let _disk = area.close();
+            Ok(Ok(live))
+        }
+        Err((_disk, error)) => Ok(Err(error)),
     }
 }
 

@@ -115,14 +115,12 @@ fn put_watched(noted: &[Noted], nodes: u32, base: &Files, words: &mut Words) {
     }
 }
 
-/// What the nodes noted in words, and between how many copies a record was written.
-pub(crate) fn put_held(noted: &[Noted], between: u32, words: &mut Words) {
+/// What the nodes noted, in words.
+pub(crate) fn put_noted(noted: &[Noted], words: &mut Words) {
     for one in noted {
         words.debug(&one.told);
         words.put(";");
     }
-    words.word("records between copies:");
-    words.number(u64::from(between));
 }
 
 /// What is said of the plan, of what the nodes noted and of the base behind it.

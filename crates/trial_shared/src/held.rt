@@ -1,12 +1,10 @@
-//! A disk in memory that holds a pack up at each of its first copies of a text, until another node is about to post.
+//! A disk in memory that holds a pack or a backup up at each of its first copies of a text, until another node is about to post.
 ghost use Rattle.std.specs.Prelude.{◌≡◌};
 
 use jb_disk::{Disk, DiskFailed, FileId, MemDisk};
 use std::sync::atomic::{AtomicU32, Ordering};
 use std::thread;
 
-/// How many copies are held up, each for a post.
-pub(crate) const POSTS: u32 = 3;
 /// How often a count is looked at before it is given up: some seconds, so that a trial ends also where nobody raises it.
 const MOST_LOADS: u32 = 500_000_000;
 /// How often it is looked at once it is raised: ten milliseconds and more, where the node that raised it needs a microsecond to stand
@@ -15,9 +13,10 @@ const LOADS_BEHIND: u32 = 30_000_000;
 /// After so many looks another thread is let run. So the wait behind the count is the longer the more threads there are.
 const LOADS_IN_A_TURN: u32 = 100_000;
 
-/// What the disk and the node that posts tell one another.
+/// What the disk and the node that posts tell one another. So many copies are held up at most, each for a post.
 #[derive(Drop)]
 pub(crate) struct Meeting {
+    pub most: u32,
     copies: AtomicU32,
     posts: AtomicU32,
 }
@@ -35,9 +34,10 @@ fn load(count: &AtomicU32, least: u32, most: u32, is_enough: bool) {
 }
 
 impl Meeting {
-    /// Nothing is copied, and nobody posts.
-    pub(crate) fn new() -> Meeting {
+    /// For so many copies. Nothing is copied, and nobody posts.
+    pub(crate) fn new(most: u32) -> Meeting {
         Meeting {
+            most,
             copies: AtomicU32::new(0),
             posts: AtomicU32::new(0),
         }
@@ -57,11 +57,12 @@ impl Meeting {
     }
 }
 
-/// A disk in memory that is held up at the first writes of .NDT. It counts between how many of them .JNL was written.
+/// A disk in memory that is held up at the first writes of a file. It counts between how many of its writes .JNL was written.
 #[derive(Drop)]
 pub(crate) struct HeldDisk<'a> {
     pub disk: MemDisk,
     meeting: &'a Meeting,
+    file: FileId,
     copies: u32,
     is_recorded: bool,
     pub between: u32,
@@ -69,10 +70,11 @@ pub(crate) struct HeldDisk<'a> {
 
 impl<'a> HeldDisk<'a> {
     /// Nothing is written yet.
-    pub(crate) fn new(disk: MemDisk, meeting: &'a Meeting) -> HeldDisk<'a> {
+    pub(crate) fn new(disk: MemDisk, meeting: &'a Meeting, file: FileId) -> HeldDisk<'a> {
         HeldDisk {
             disk,
             meeting,
+            file,
             copies: 0,
             is_recorded: false,
             between: 0,
@@ -85,13 +87,13 @@ impl<'a> HeldDisk<'a> {
     {
         match file {
             FileId::Jnl => self.is_recorded = self.copies > 0,
-            FileId::Ndt => {
+            _ if file == self.file => {
                 if self.is_recorded {
                     self.between = self.between.saturating_add(1);
                 }
                 self.is_recorded = false;
                 self.copies = self.copies.saturating_add(1);
-                if self.copies <= POSTS {
+                if self.copies <= self.meeting.most {
                     self.meeting.hold(self.copies);
                 }
             }

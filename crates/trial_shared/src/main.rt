@@ -1,12 +1,13 @@
 //! Tries the shared area by rows of words: nodes call, look, count and close in one thread, in the order that the rows name;
 //! and thirty-three nodes do so in threads of their own, and what they were answered is replayed on the plain, slow program; and one
-//! node posts, kills and packs while eight others look; and one packs long texts while another posts. And the ticket turn under it:
-//! seats add to a number behind a turn, in two threads and one after another.
+//! node posts, kills and packs while eight others look; and one packs long texts, or backs them up, while another posts. And the ticket
+//! turn under it: seats add to a number behind a turn, in two threads and one after another.
 #![tactic(auto)]
 
 mod adding;
 mod agenda;
 mod asking;
+mod backing;
 mod base;
 mod following;
 mod held;

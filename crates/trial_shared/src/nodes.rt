@@ -4,8 +4,10 @@ ghost use Rattle.jb_shared.specs.Areas.{IsOf};
 
 use crate::agenda::Agenda;
 use crate::asking::{Caller, command_by};
+use crate::backing::{Backup, Made, empty_disk};
+use crate::held::{HeldDisk, Meeting};
 use crate::noted::{Deed, NODES, Noted, Plan, Told, caller_at};
-use jb_disk::Disk;
+use jb_disk::{Disk, FileId};
 use jb_shared::{Pass, SharedArea, SharedError};
 use jb_state::{Answer, Question};
 use std::alloc::Global;
@@ -120,6 +122,48 @@ fn follow<D: Disk, R: Wait>(
     }
 }
 
+// The node backs the area up onto a disk that is held up at its first writes of .JDT. Without memory nothing is made.
+fn back_up<D: Disk, R: Wait>(
+    rt: &R,
+    alloc: Global,
+    area: &SharedArea<D>,
+    pass: &mut Pass,
+    meeting: &Meeting,
+    made: &Made,
+)
+    requires { IsOf area.now pass.old }
+    ensures { IsOf area.now pass.new }
+{
+    let Ok(disk) = empty_disk(alloc, &[]) else {
+        return;
+    };
+    let mut onto = HeldDisk::new(disk, meeting, FileId::Jdt);
+    let backed = area.backup(rt, alloc, pass, &mut onto);
+    let HeldDisk { disk: onto, .. } = onto;
+    *made.lock(rt) = Some(Backup { onto, backed });
+}
+
+// What the node at this place among the passes does in its thread.
+fn act<D: Disk, R: Wait>(
+    rt: &R,
+    alloc: Global,
+    area: &SharedArea<D>,
+    pass: &mut Pass,
+    log: &Mutex<Vec<Noted>>,
+    plan: Plan,
+    place: usize,
+)
+    requires { IsOf area.now pass.old }
+    ensures { IsOf area.now pass.new }
+{
+    match plan {
+        Plan::Beside(meeting, made) if place == 0 => {
+            back_up(rt, alloc, area, pass, meeting, made)
+        }
+        _ => follow(rt, alloc, area, pass, log, plan, place),
+    }
+}
+
 /// Each node follows the plan, in a thread of its own.
 pub(crate) fn follow_all<D: Disk + Send + Sync, R: Threads + Wait + Sync>(
     rt: &R,
@@ -140,7 +184,7 @@ pub(crate) fn follow_all<D: Disk + Send + Sync, R: Threads + Wait + Sync>(
             requires { IsOf area.now pass.now }
             ensures { IsOf area.entry.now pass.exit.now }
         {
-            follow(rt, alloc, area, pass, log, plan, place);
+            act(rt, alloc, area, pass, log, plan, place);
         },
     );
 }

@@ -3,6 +3,7 @@ ghost use Rattle.std.specs.Prelude.{◌<◌, ◌≤◌, ◌+◌};
 ghost use Rattle.jb_limits.specs.declared.limits.TheConstants.{MOST_NODES};
 
 use crate::asking::{Caller, caller_named};
+use crate::backing::Made;
 use crate::held::Meeting;
 use jb_base::MOST_NODES;
 use jb_model::Reply;
@@ -26,6 +27,8 @@ pub(crate) enum Plan<'a> {
     Watch(u32, u32),
     /// The first node packs, and the other posts at each of the first copies, as soon as it is to be made.
     Between(&'a Meeting),
+    /// The first node backs the area up, which is not noted but made there, and the other posts in the same way.
+    Beside(&'a Meeting, &'a Made),
 }
 
 impl<'a> Plan<'a> {
@@ -36,7 +39,7 @@ impl<'a> Plan<'a> {
         match self {
             Plan::Drawn(..) | Plan::Crowd(..) => NODES,
             Plan::Watch(..) => 9,
-            Plan::Between(_) => 2,
+            Plan::Between(_) | Plan::Beside(..) => 2,
         }
     }
 }

@@ -3,15 +3,16 @@ ghost use Rattle.std.specs.Prelude.{◌<◌, ◌≤◌, IfOk, ◌+◌};
 ghost use Rattle.jb_limits.specs.declared.limits.TheConstants.{MOST_NODES};
 
 use crate::asking::{Caller, caller_named, command_by};
+use crate::backing::{Backup, empty_disk, put_backup, put_stops};
 use crate::base::{area_in, empty, lengthened};
-use crate::following::{followed_in, followed_on, in_order, plan_in, put_held, put_judged};
+use crate::following::{followed_in, followed_on, in_order, plan_in, put_judged, put_noted};
 use crate::held::{HeldDisk, Meeting};
 use crate::noted::{NODES, Noted, Plan};
 use crate::shared::{Ask, Shared};
 use crate::turns;
 use jb_area::OpenArea;
 use jb_base::OutOfMemory;
-use jb_disk::MemDisk;
+use jb_disk::{FileId, MemDisk};
 use jb_state::Question;
 use std::alloc::Global;
 use std::mem;
@@ -182,9 +183,9 @@ impl<'a, R: Threads + Wait + Sync> Trial<'a, R> {
     // One node packs the area of the base, and another posts at each of the first copies. Says between how many of them a record was
     // written.
     fn held(&mut self, log: &Mutex<Vec<Noted>>, words: &mut Words) -> Result<u32, RowError> {
-        let meeting = Meeting::new();
+        let meeting = Meeting::new(3);
         let disk = match self.base.disk(words.alloc, &[]) {
-            Ok(disk) => HeldDisk::new(disk, &meeting),
+            Ok(disk) => HeldDisk::new(disk, &meeting, FileId::Ndt),
             Err(_) => return Err(RowError::OutOfMemory),
         };
         match followed_on(self.rt, words.alloc, disk, log, Plan::Between(&meeting)) {
@@ -202,9 +203,60 @@ impl<'a, R: Threads + Wait + Sync> Trial<'a, R> {
         match self.held(&log, words) {
             Ok(between) => {
                 let noted = in_order(log, words);
-                put_held(noted.as_slice(), between, words);
+                put_noted(noted.as_slice(), words);
+                words.word("records between copies:");
+                words.number(u64::from(between));
             }
             Err(error) => words.refuse(error),
+        }
+    }
+
+    // One node backs the area of the base up, and another posts at the first copy.
+    fn beside(
+        &self,
+        log: &Mutex<Vec<Noted>>,
+        words: &mut Words,
+    ) -> Result<Option<Backup>, RowError> {
+        let (meeting, made) = (Meeting::new(1), Mutex::new(None));
+        let disk = self.base.disk(words.alloc, &[])?;
+        let plan = Plan::Beside(&meeting, &made);
+        let _disk = followed_on(self.rt, words.alloc, disk, log, plan)?;
+        Ok(made.into_inner())
+    }
+
+    // What was made of a backup, and what stops leave of it. The base then has the files of its target.
+    fn put_made(&mut self, backup: &Backup, words: &mut Words) {
+        put_backup(backup, words);
+        if let Ok(backed) = &backup.backed {
+            put_stops(&backup.onto, backed.live, words);
+        }
+        self.take(&backup.onto, words);
+    }
+
+    // `beside`: so two nodes do; what the other noted, and what was made, is told.
+    fn back_up_beside(&mut self, words: &mut Words) {
+        let log = Mutex::new(Vec::new(words.alloc));
+        match self.beside(&log, words) {
+            Ok(Some(backup)) => {
+                let noted = in_order(log, words);
+                put_noted(noted.as_slice(), words);
+                self.put_made(&backup, words);
+            }
+            Ok(None) => words.lack(),
+            Err(error) => words.refuse(error),
+        }
+    }
+
+    // `backup NODE FAILING..`: the node backs the area up onto an empty disk that fails these of its calls.
+    fn back_up(&mut self, row: &Row, words: &mut Words) {
+        let failing = row.numbers(2, 0, words);
+        match (
+            &mut self.shared,
+            empty_disk(words.alloc, failing.as_slice()),
+        ) {
+            (Some(shared), Ok(onto)) => shared.back_up(self.rt, row, onto, words),
+            (None, _) => words.word("no area is shared"),
+            _ => words.lack(),
         }
     }
 
@@ -257,6 +309,8 @@ impl<'a, R: Threads + Wait + Sync> Trial<'a, R> {
             }
             "drawn" | "crowd" | "packers" | "lookers" => self.follow(row, words),
             "between" => self.pack_held(words),
+            "beside" => self.back_up_beside(words),
+            "backup" => self.back_up(row, words),
             "threads" => turns::threads(self.rt, row, words),
             "seats" => turns::some_seats(self.rt, row, words),
             _ => self.ask(row, words),

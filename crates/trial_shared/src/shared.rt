@@ -5,11 +5,12 @@ ghost use Rattle.jb_area.specs.Calls.{HasRest};
 ghost use Rattle.jb_shared.specs.Areas.{IsOf};
 
 use crate::asking::Caller;
+use crate::backing::{Backup, put_backup};
 use crate::nodes::follow_all;
 use crate::noted::{Noted, Plan};
 use crate::showing::{put_answer, put_count, put_reply};
 use jb_area::OpenArea;
-use jb_disk::Disk;
+use jb_disk::{Disk, MemDisk};
 use jb_model::Command;
 use jb_shared::{CloseError, Pass, SharedArea};
 use jb_state::Question;
@@ -66,6 +67,21 @@ fn put_told<D: Disk, R: Wait>(
     }
 }
 
+// What is answered to a backup onto this disk, and how it opens.
+fn put_backed<D: Disk, R: Wait>(
+    rt: &R,
+    area: &SharedArea<D>,
+    pass: &mut Pass,
+    mut onto: MemDisk,
+    words: &mut Words,
+)
+    requires { IsOf area.now pass.old }
+    ensures { IsOf area.now pass.new }
+{
+    let backed = area.backup(rt, words.alloc, pass, &mut onto);
+    put_backup(&Backup { onto, backed }, words);
+}
+
 // The place of this node among so many passes.
 fn place_of(node: u32, count: usize) -> Result<usize, RowError>
     ensures { IfOk result (λ place. place < count) }
@@ -111,6 +127,15 @@ impl<D: Disk + Drop> Shared<D> {
                 let pass = &mut self.passes[place];
                 put_told(rt, &self.area, pass, caller, ask, words);
             }
+            Err(error) => words.refuse(error),
+        }
+    }
+
+    /// The node of this row backs the area up onto this disk. What is answered, and how the disk opens.
+    pub(crate) fn back_up<R: Wait>(&mut self, rt: &R, row: &Row, onto: MemDisk, words: &mut Words) {
+        let node = row.u32(1, words);
+        match place_of(node, self.passes.len()) {
+            Ok(place) => put_backed(rt, &self.area, &mut self.passes[place], onto, words),
             Err(error) => words.refuse(error),
         }
     }

@@ -23,7 +23,7 @@ show-requires-clause-can g c =
     let stands = c.in-Ok.stands in
     can_show shown (IsKeptInDoubt shown) known (row_of c.note.new.seat) c.args.held.state c.note.new.held.state stands (Reopened stands) (value_with c.args.held.state stands)
     c.requires.out.0.knows.stands_for (ap (λ s. s.shower) c.note.ensures.kept) (ap (λ s. value_with s stands) c.note.ensures.kept) (ap (λ (r : SeatRow). r.front) c.note.ensures.row)
-    (λ first was. (was.index, (shows_reopened shown c.args.held.state c.reopen.new.self first known.front stands was c.in-Ok.ensures.settled c.reopen.ensures.crash c.reopen.ensures.rules c.reopen.ensures.alike c.in-Ok.ensures.faults.quiet).1))
+    (λ first was. (was.index, (shows_reopened shown c.args.held.state c.reopen.new.self first known.front stands was c.in-Ok.ensures.settled c.reopen.ensures.crash c.reopen.ensures.rules c.reopen.ensures.alike c.in-Ok.ensures.faults.quiet c.in-Ok.ensures.packs).1))
 
 pub returns-in-Ok-clause-ended : goal.returns-in-Ok-clause-ended
 returns-in-Ok-clause-ended g c = (c.in-Ok.stands, leads_ended (row_of c.args.seat.now) (row_of c.note.new.seat) c.in-Ok.stands c.note.ensures.row)
@@ -38,7 +38,7 @@ returns-in-Ok-clause-ok g c =
         holds = subst (HoldsTurn c.args.turn.now c.note.new.seat) (sym c.show.ensures.count) c.note.ensures.seat;
         knows =
             knows_noted (IsKeptInDoubt shown) (IsKeptSettled shown) c.args.held.state c.show.result.state known (row_of c.note.new.seat) (Reopened stands) c.note.ensures.row c.requires.out.0.knows
-            (λ first was. kept_reopened shown c.args.held.state c.show.result.state c.reopen.new.self first known.front stands was c.in-Ok.ensures.settled c.reopen.ensures.crash c.reopen.ensures.rules c.reopen.ensures.alike c.in-Ok.ensures.faults.quiet
+            (λ first was. kept_reopened shown c.args.held.state c.show.result.state c.reopen.new.self first known.front stands was c.in-Ok.ensures.settled c.reopen.ensures.crash c.reopen.ensures.rules c.reopen.ensures.alike c.in-Ok.ensures.faults.quiet c.in-Ok.ensures.packs
             (c.show.ensures.shown.area ∙ ap (λ s. s.area) kept)
             (shown_as shown c.args.held.state c.note.new.held.state c.show.result.state stands (front c.note.new.seat) (known.front ++ Reopened stands ∷ []) (value_with c.args.held.state stands)
             c.show.ensures.shown (ap (λ s. s.shower) kept) (ap (λ s. value_with s stands) kept) (ap (λ (r : SeatRow). r.front) c.note.ensures.row)));
@@ -64,7 +64,7 @@ returns-in-Err-clause-out g c =
       knows =
           knows_noted (IsKeptInDoubt shown) (IsKept shown) c.args.held.state c.note-in-Err.new.held.state known (row_of c.note-in-Err.new.seat) (next_call known c.args.call (NotBegun faults)) c.note-in-Err.ensures.row knows
           (λ first was. kept_not_begun shown c.args.held.state c.note-in-Err.new.held.state c.reopen.new.self first known.front known.node (length known.mine + 1) c.args.call.user.now c.args.call.moment c.args.call.command.now was
-          c.in-Err.ensures.still c.in-Err.ensures.loaded c.reopen.ensures.crash c.in-Err.ensures.opens c.reopen.ensures.rules c.reopen.ensures.alike c.in-Err.ensures.faults.cause (next_number (IsKeptInDoubt shown) (IsKept shown) c.args.held.state known knows)
+          c.in-Err.ensures.still c.in-Err.ensures.loaded c.reopen.ensures.crash c.in-Err.ensures.opens c.reopen.ensures.rules c.reopen.ensures.alike c.in-Err.ensures.faults.cause c.in-Err.ensures.unpacked (next_number (IsKeptInDoubt shown) (IsKept shown) c.args.held.state known knows)
           c.note-in-Err.ensures.kept);
     }
 
@@ -80,7 +80,7 @@ show-requires-clause-firm g c =
     (λ first was. (
       was.index,
       subst (λ a. StandsSettled shown a first.opening (known.front ++ Reopened stands ∷ [])) (sym (ap (λ s. s.area) kept))
-          (stands_reopened shown old.area c.reopen.new.self first.opening known.front stands was.area c.in-Ok.ensures.settled c.reopen.ensures.crash c.reopen.ensures.rules c.reopen.ensures.alike c.in-Ok.ensures.faults.quiet).0,
+          (stands_reopened shown old.area c.reopen.new.self first.opening known.front stands was.area c.in-Ok.ensures.settled c.reopen.ensures.crash c.reopen.ensures.rules c.reopen.ensures.alike c.in-Ok.ensures.faults.quiet c.in-Ok.ensures.packs).0,
     ))
 
 pub returns-in-Ok-clause-crash : goal.returns-in-Ok-clause-crash
@@ -92,7 +92,7 @@ returns-in-Ok-clause-crash g c =
     leaves_noted shown (IsKeptInDoubt shown) known (row_of c.note.new.seat) old c.reopen.new.self c.show.result.state.area (Reopened stands) c.requires.out.0.knows.stands_for (ap (λ (r : SeatRow). r.front) c.note.ensures.row)
     (c.show.ensures.shown.area ∙ ap (λ s. s.area) c.note.ensures.kept)
     (λ first was.
-    (stands_reopened shown old.area c.reopen.new.self first.opening known.front stands was.area c.in-Ok.ensures.settled c.reopen.ensures.crash c.reopen.ensures.rules c.reopen.ensures.alike c.in-Ok.ensures.faults.quiet).1)
+    (stands_reopened shown old.area c.reopen.new.self first.opening known.front stands was.area c.in-Ok.ensures.settled c.reopen.ensures.crash c.reopen.ensures.rules c.reopen.ensures.alike c.in-Ok.ensures.faults.quiet c.in-Ok.ensures.packs).1)
 
 pub returns-in-Err-clause-crash : goal.returns-in-Err-clause-crash
 returns-in-Err-clause-crash g c =
@@ -104,4 +104,4 @@ returns-in-Err-clause-crash g c =
     (ap (λ (r : SeatRow). r.front) c.note-in-Err.ensures.row) (ap (λ s. s.area) c.note-in-Err.ensures.kept)
     (λ first was.
     (stands_not_begun shown old.area c.reopen.new.self first.opening known.front known.node (length known.mine + 1) c.args.call.user.now c.args.call.moment c.args.call.command.now was.area
-    c.in-Err.ensures.still c.in-Err.ensures.loaded c.reopen.ensures.crash c.in-Err.ensures.opens c.reopen.ensures.rules c.reopen.ensures.alike c.in-Err.ensures.faults.cause (next_number (IsKeptInDoubt shown) (IsKept shown) old known knows)).1)
+    c.in-Err.ensures.still c.in-Err.ensures.loaded c.reopen.ensures.crash c.in-Err.ensures.opens c.reopen.ensures.rules c.reopen.ensures.alike c.in-Err.ensures.faults.cause c.in-Err.ensures.unpacked (next_number (IsKeptInDoubt shown) (IsKept shown) old known knows)).1)

@@ -7,7 +7,7 @@ use Rattle.jb_shared.proofs.doing.run.Goals as goal
 pub returns-in_default-clause-meets : goal.returns-in_default-clause-meets
 returns-in_default-clause-meets g c =
     meets_abandoned g.D.Disk.device c.args.area.now c.begin.new.self c.abandon.new.self c.args.call.user.now c.args.call.moment c.args.call.command.now c.in-Ok.field-0 c.in-Ok.ensures.begins
-    c.abandon.ensures.rests c.abandon.ensures.device c.abandon.ensures.rules c.abandon.ensures.copies c.abandon.ensures.commits
+    c.abandon.ensures.rests c.abandon.ensures.device c.abandon.ensures.rules c.abandon.ensures.copies c.abandon.ensures.commits c.abandon.ensures.packs
 
 pub returns-in_default-clause-doubted : goal.returns-in_default-clause-doubted
 returns-in_default-clause-doubted g c = λ change.
