@@ -4,6 +4,7 @@ use Rattle.std.specs.Prelude.{◌≢◌, ◌⊎◌, unwrap_or, Option, Some, Non
 use Rattle.jb_area_open.specs.Laws.{OpensWithin}
 use Rattle.jb_area_open.specs.declared.error.OpeningError.{OpeningError}
 use Rattle.jb_area_open.specs.declared.error.OpeningError.TheVariants as opening
+use Rattle.jb_backup.specs.Target.{AreEmpty}
 use Rattle.jb_bytes.specs.Fault.{Rose}
 use Rattle.jb_conf.specs.declared.board.Board.{Board}
 use Rattle.jb_conf.specs.declared.error.ConfError.{ConfError}
@@ -32,7 +33,8 @@ use Rattle.jb_session.specs.Served.{Served}
 use Rattle.jb_session.specs.declared.end.SessionEnd.{SessionEnd}
 use Rattle.jb_session.specs.declared.end.SessionEnd.TheVariants as session
 use Rattle.jb_tool.specs.Answers.{AnswersTool}
-use Rattle.jb_tool.specs.Laws.{HoldNoBase, IsCompleteAnswer, IsDoneOrNoMemory, MakesWhereNoneIs, ServesWhatOpens}
+use Rattle.jb_tool.specs.Backing.{AnswersBackup, RoseInOneIf}
+use Rattle.jb_tool.specs.Laws.{BacksUpWhatOpens, HoldNoBase, IsCompleteAnswer, IsCompleteBackup, IsDoneOrNoMemory, MakesWhereNoneIs, ServesWhatOpens}
 use Rattle.jb_tool.specs.Recovered.{is_tool_fault}
 use Rattle.jb_tool.specs.declared.error.ToolError.{ToolError}
 use Rattle.jb_tool.specs.declared.error.ToolError.TheVariants as tool
@@ -40,8 +42,8 @@ use Rattle.jb_tool.specs.declared.tool.Tool.{Tool}
 use Rattle.jb_tool.specs.declared.tool.Tool.TheVariants.{List as Listing, Check, Make, Pack, Relink}
 use Rattle.jb_board.specs.Faults.{area_status, base_status, fault_of, settings_status, status_of, tool_status}
 use Rattle.jb_board.specs.Laws.{FailsByFaultsAlone, IsDone, IsForTool, NothingFailed, IsServedWith, IsThere, IsToolServed, ServesWhatIsThere}
-use Rattle.jb_board.specs.Run.{AnswersWords, GetsNoDisk, HasRun, IsPrinted, RunAnswer, SaysText, SendsAll, ServesLocal, ServesNodes, StopsConsole, UsesDisk, UsesTool, answer_behind, answer_behind_nodes, run_answer}
-use Rattle.jb_board.specs.Words.{Words, use_tool, run_load, serve_one, serve_all, show_help, command_line_of}
+use Rattle.jb_board.specs.Run.{AnswersWords, HasRun, IsPrinted, RefusesDisk, RunAnswer, SaysText, SendsAll, StopsConsole, UsesDisk, UsesDisks, answer_behind, answer_behind_nodes, run_answer}
+use Rattle.jb_board.specs.Words.{Words, use_tool, back_up, run_load, serve_one, serve_all, show_help, command_line_of}
 use Rattle.jb_board.specs.declared.fault.Fault.{Fault}
 use Rattle.jb_board.specs.declared.fault.Fault.TheVariants as fault
 use Rattle.jb_board.specs.declared.top.Outcome.TheVariants.{Text, Session, Nodes}
@@ -94,26 +96,26 @@ base_clear (refused.HeadersOverlap a b) other = three_clear
 base_clear refused.StoreFault other = absurd (other refl)
 base_clear refused.OutOfMemory other = six_clear
 
--- and one whose fault would have raised a count that did not rise
-tool_clear : (error : ToolError) (before after : ℕ) → RoseIf (is_tool_fault error) before after → (Rose before after → ⊥) → IsClear (tool_status error)
-tool_clear (tool.BadJournal at) before after cause quiet = three_clear
-tool_clear (tool.Open refused.ShortHeader) before after cause quiet = three_clear
-tool_clear (tool.Open refused.BadSignature) before after cause quiet = three_clear
-tool_clear (tool.Open refused.BaseZero) before after cause quiet = three_clear
-tool_clear (tool.Open refused.IndexLength) before after cause quiet = three_clear
-tool_clear (tool.Open refused.LastreadLength) before after cause quiet = three_clear
-tool_clear (tool.Open refused.TooManySlots) before after cause quiet = three_clear
-tool_clear (tool.Open refused.NumberRange) before after cause quiet = three_clear
-tool_clear (tool.Open (refused.HeaderPlace n)) before after cause quiet = three_clear
-tool_clear (tool.Open (refused.HeaderSignature n)) before after cause quiet = three_clear
-tool_clear (tool.Open (refused.HeaderRevision n)) before after cause quiet = three_clear
-tool_clear (tool.Open (refused.Subfields n at)) before after cause quiet = three_clear
-tool_clear (tool.Open (refused.TextPlace n)) before after cause quiet = three_clear
-tool_clear (tool.Open (refused.HeadersOverlap a b)) before after cause quiet = three_clear
-tool_clear (tool.Open refused.StoreFault) before after cause quiet = absurd (quiet cause)
-tool_clear (tool.Open refused.OutOfMemory) before after cause quiet = six_clear
-tool_clear tool.AlreadyThere before after cause quiet = three_clear
-tool_clear (tool.TextFull n) before after cause quiet = three_clear
+-- and a tool that is refused so
+tool_clear : (error : ToolError) → error ≢ tool.Open refused.StoreFault → IsClear (tool_status error)
+tool_clear (tool.BadJournal at) other = three_clear
+tool_clear (tool.Open error) other = base_clear error (λ is. other (ap tool.Open is))
+tool_clear tool.AlreadyThere other = three_clear
+tool_clear (tool.TextFull n) other = three_clear
+tool_clear (tool.NotEmpty file) other = three_clear
+
+-- a fault would have raised a count that did not rise
+no_store_fault : (error : ToolError) (before after : ℕ) → RoseIf (is_tool_fault error) before after → (Rose before after → ⊥) → error ≢ tool.Open refused.StoreFault
+no_store_fault error before after cause quiet = λ is. quiet (subst (λ (e : ToolError). RoseIf (is_tool_fault e) before after) is cause)
+
+-- or one of two
+no_fault_of_two : (error : ToolError) (one one_now other other_now : ℕ) → RoseInOneIf (is_tool_fault error) one one_now other other_now
+    → (Rose one one_now → ⊥) → (Rose other other_now → ⊥) → error ≢ tool.Open refused.StoreFault
+no_fault_of_two error one one_now other other_now cause quiet other_quiet = λ is.
+    elim (subst (λ (e : ToolError). RoseInOneIf (is_tool_fault e) one one_now other other_now) is cause) [
+      | inl rose ↦ quiet rose
+      | inr rose ↦ other_quiet rose
+    ]
 
 settings_clear : (error : ConfError) → IsClear (settings_status error)
 settings_clear conf.NotToml = two_clear
@@ -212,8 +214,8 @@ says_done old mid text answer status (inl told) same said =
 says_done old mid text answer status (inr none) same said = inr (says_fault old mid fault.OutOfMemory status (said_as old mid answer (Err fault.OutOfMemory) status none said))
 
 -- no disk was handed out: memory was wanting
-none_done : (old mid : Desk) (answer : RunAnswer) (status : ℕ) → GetsNoDisk old mid answer → IsSaid old mid answer status → status ≡ 6
-none_done old mid answer status none said = elim none.2 [
+refused_done : (old mid : Desk) (answer : RunAnswer) (status : ℕ) → RefusesDisk old.faults mid.faults answer → IsSaid old mid answer status → status ≡ 6
+refused_done old mid answer status refused said = elim refused [
   | inl host ↦ absurd (said.host.host host.1)
   | inr memory ↦ says_fault old mid fault.OutOfMemory status (said_as old mid answer (Err fault.OutOfMemory) status memory.0 said)
 ]
@@ -229,12 +231,40 @@ tool_over_clear of moment dir name old mid (Ok (Session end)) status same uses s
 tool_over_clear of moment dir name old mid (Ok (Nodes end)) status same uses said = absurd uses.answers
 tool_over_clear of moment dir name old mid (Err (fault.Tool error)) status same uses said =
     as_clear status (tool_status error) (says_fault old mid (fault.Tool error) status said)
-    (tool_clear error uses.before.faults uses.then.faults uses.answers.faults.cause (disk_quiet old mid uses.before uses.then said.host uses.failed))
+    (tool_clear error (no_store_fault error uses.before.faults uses.then.faults uses.answers.faults.cause (disk_quiet old mid uses.before uses.then said.host uses.failed)))
 tool_over_clear of moment dir name old mid (Err fault.Words) status same uses said = absurd uses.answers
 tool_over_clear of moment dir name old mid (Err (fault.Settings error)) status same uses said = absurd uses.answers
 tool_over_clear of moment dir name old mid (Err (fault.Area place error)) status same uses said = absurd uses.answers
 tool_over_clear of moment dir name old mid (Err fault.HostFault) status same uses said = absurd uses.answers
 tool_over_clear of moment dir name old mid (Err fault.OutOfMemory) status same uses said = absurd uses.answers
+
+-- both disks of a backup were used, and did not fail
+base_quiet : (dir name onto : List ℕ) (old mid : Desk) (answer : RunAnswer) → HasNotFailed old mid → (uses : UsesDisks dir name onto old mid answer)
+    → Rose uses.before.faults uses.then.faults → ⊥
+base_quiet dir name onto old mid answer quiet uses rose =
+    let first = uses.failed.1.rose (some_faults uses.before.faults uses.then.faults rose) in
+    quiet.back (omega (arith, first, uses.failed.2.later))
+
+target_quiet : (dir name onto : List ℕ) (old mid : Desk) (answer : RunAnswer) → HasNotFailed old mid → (uses : UsesDisks dir name onto old mid answer)
+    → Rose uses.target.faults uses.target_then.faults → ⊥
+target_quiet dir name onto old mid answer quiet uses rose =
+    let second = uses.failed.2.rose (some_faults uses.target.faults uses.target_then.faults rose) in
+    quiet.back (omega (arith, second, uses.failed.1.later))
+
+backup_over_clear : (dir name onto : List ℕ) (old mid : Desk) (answer : RunAnswer) (status : ℕ) → mid.console ≡ old.console
+    → UsesDisks dir name onto old mid answer → IsSaid old mid answer status → IsClear status
+backup_over_clear dir name onto old mid (Ok (Text text)) status same uses said = as_clear status 0 (says_text old mid text status same said) zero_clear
+backup_over_clear dir name onto old mid (Ok (Session end)) status same uses said = absurd uses.answers
+backup_over_clear dir name onto old mid (Ok (Nodes end)) status same uses said = absurd uses.answers
+backup_over_clear dir name onto old mid (Err (fault.Tool error)) status same uses said =
+    as_clear status (tool_status error) (says_fault old mid (fault.Tool error) status said)
+    (tool_clear error (no_fault_of_two error uses.before.faults uses.then.faults uses.target.faults uses.target_then.faults uses.answers.faults.cause
+    (base_quiet dir name onto old mid (Err (fault.Tool error)) said.host uses) (target_quiet dir name onto old mid (Err (fault.Tool error)) said.host uses)))
+backup_over_clear dir name onto old mid (Err fault.Words) status same uses said = absurd uses.answers
+backup_over_clear dir name onto old mid (Err (fault.Settings error)) status same uses said = absurd uses.answers
+backup_over_clear dir name onto old mid (Err (fault.Area place error)) status same uses said = absurd uses.answers
+backup_over_clear dir name onto old mid (Err fault.HostFault) status same uses said = absurd uses.answers
+backup_over_clear dir name onto old mid (Err fault.OutOfMemory) status same uses said = absurd uses.answers
 
 -- a session, and a run with many nodes, over an open board
 local_end_served : (path : List ℕ) (old mid : Desk) (end : LocalEnd) (status : ℕ) → ServesOne path old mid end → IsSaid old mid (Ok (Session end)) status → IsDone status ⊎ (status ≡ 7)
@@ -246,9 +276,9 @@ local_end_served path old mid end status serves said =
     let Q : ℕ → Type 0 = λ n. IsDone n ⊎ (n ≡ 7) in
     subst Q (sym said.printed.0) (local_served end.is_doubtful end.session (λ is. said.host.back (serves.over.failing is)) sound)
 
-nodes_end_served : (door_for : Option ℕ → Gate → Type 0) (bell_over : ℕ → ℕ → Option ℕ → Rings → Type 0) (path : List ℕ) (most : Option ℕ) (old mid : Desk) (end : NodesEnd) (status : ℕ)
-    → ServesAll door_for bell_over path most old mid end → IsSaid old mid (Ok (Nodes end)) status → status ≡ 0
-nodes_end_served door_for bell_over path most old mid end status serves said =
+nodes_end_served : (door_for : Option ℕ → Gate → Type 0) (bell_over : ℕ → ℕ → Option ℕ → Rings → Type 0) (path : List ℕ) (most : Option ℕ) (backup : Option (List ℕ)) (old mid : Desk) (end : NodesEnd)
+    (status : ℕ) → ServesAll door_for bell_over path most backup old mid end → IsSaid old mid (Ok (Nodes end)) status → status ≡ 0
+nodes_end_served door_for bell_over path most backup old mid end status serves said =
     said.printed.0 ∙ nodes_served end.is_doubtful end.door_failed (λ is. said.host.back (serves.over.failing is)) (λ is. said.host.back (serves.door is))
 
 -- nobody was served
@@ -269,24 +299,32 @@ local_clear path old mid (Ok end) status runs said = either_clear status (local_
 local_clear path old mid (Err error) status runs said = refusal_clear ⊥ path old mid error status runs said
 
 module _ (door_for : Option ℕ → Gate → Type 0) (bell_over : ℕ → ℕ → Option ℕ → Rings → Type 0) where
-  nodes_clear : (path : List ℕ) (most : Option ℕ) (old mid : Desk) (came : Result NodesEnd RunError) (status : ℕ) → RunsNodes door_for bell_over path most old mid came
+  nodes_clear : (path : List ℕ) (most : Option ℕ) (backup : Option (List ℕ)) (old mid : Desk) (came : Result NodesEnd RunError) (status : ℕ)
+      → RunsNodes door_for bell_over path most backup old mid came
       → IsSaid old mid (answer_behind_nodes came) status → IsClear status
-  nodes_clear path most old mid (Ok end) status runs said = as_clear status 0 (nodes_end_served door_for bell_over path most old mid end status runs said) zero_clear
-  nodes_clear path most old mid (Err error) status runs said = refusal_clear (RefusesLines path most old mid error) path old mid error status runs said
+  nodes_clear path most backup old mid (Ok end) status runs said = as_clear status 0 (nodes_end_served door_for bell_over path most backup old mid end status runs said) zero_clear
+  nodes_clear path most backup old mid (Err error) status runs said = refusal_clear (RefusesLines path most backup old mid error) path old mid error status runs said
 
   words_clear : (line : Option Words) (moment : ℕ) (old mid : Desk) (answer : RunAnswer) (status : ℕ) → AnswersWords door_for bell_over line moment old mid answer
       → IsSaid old mid answer status → IsClear status
   words_clear None moment old mid answer status answers said =
       as_clear status 1 (says_fault old mid fault.Words status (said_as old mid answer (Err fault.Words) status answers.0 said)) one_clear
   words_clear (Some (use_tool of dir name)) moment old mid answer status answers said = elim answers.disk [
-    | inl none ↦ as_clear status 6 (none_done old mid answer status none said) six_clear
+    | inl none ↦ as_clear status 6 (refused_done old mid answer status none.2 said) six_clear
     | inr uses ↦ tool_over_clear of moment dir name old mid answer status answers.rest.console uses said
+  ]
+  words_clear (Some (back_up dir name onto)) moment old mid answer status answers said = elim answers.disks [
+    | inl none ↦ as_clear status 6 (refused_done old mid answer status none.0.2 said) six_clear
+    | inr later ↦ elim later [
+      | inl untargeted ↦ as_clear status 6 (refused_done old mid answer status untargeted.refused said) six_clear
+      | inr uses ↦ backup_over_clear dir name onto old mid answer status answers.rest.console uses said
+    ]
   ]
   words_clear (Some (run_load seed count)) moment old mid answer status answers said = done_clear status (says_done old mid _ answer status answers.0 answers.1 said)
   words_clear (Some (serve_one path)) moment old mid answer status answers said =
       local_clear path old mid answers.came status answers.runs (said_as old mid answer (answer_behind answers.came) status answers.is said)
-  words_clear (Some (serve_all path calls)) moment old mid answer status answers said =
-      nodes_clear path calls old mid answers.came status answers.runs (said_as old mid answer (answer_behind_nodes answers.came) status answers.is said)
+  words_clear (Some (serve_all path calls backup)) moment old mid answer status answers said =
+      nodes_clear path calls backup old mid answers.came status answers.runs (said_as old mid answer (answer_behind_nodes answers.came) status answers.is said)
   words_clear (Some show_help) moment old mid answer status answers said = done_clear status (says_done old mid _ answer status answers.0 answers.1 said)
 
   -- what a whole run has said
@@ -315,26 +353,31 @@ complete_served Listing old mid (Err (tool.Open error)) status same is said = in
 complete_served Listing old mid (Err (tool.BadJournal at)) status same is said = absurd is
 complete_served Listing old mid (Err tool.AlreadyThere) status same is said = absurd (cc (is))
 complete_served Listing old mid (Err (tool.TextFull n)) status same is said = absurd (cc (is))
+complete_served Listing old mid (Err (tool.NotEmpty file)) status same is said = absurd is
 complete_served Check old mid (Ok text) status same is said = inl (says_text old mid text status same said)
 complete_served Check old mid (Err (tool.Open error)) status same is said = inr (says_fault old mid (fault.Tool (tool.Open error)) status said ∙ ap base_status is)
 complete_served Check old mid (Err (tool.BadJournal at)) status same is said = absurd is
 complete_served Check old mid (Err tool.AlreadyThere) status same is said = absurd (cc (is))
 complete_served Check old mid (Err (tool.TextFull n)) status same is said = absurd (cc (is))
+complete_served Check old mid (Err (tool.NotEmpty file)) status same is said = absurd is
 complete_served Relink old mid (Ok text) status same is said = inl (says_text old mid text status same said)
 complete_served Relink old mid (Err (tool.Open error)) status same is said = inr (says_fault old mid (fault.Tool (tool.Open error)) status said ∙ ap base_status is)
 complete_served Relink old mid (Err (tool.BadJournal at)) status same is said = absurd is
 complete_served Relink old mid (Err tool.AlreadyThere) status same is said = absurd (cc (is))
 complete_served Relink old mid (Err (tool.TextFull n)) status same is said = absurd (cc (is))
+complete_served Relink old mid (Err (tool.NotEmpty file)) status same is said = absurd is
 complete_served Make old mid (Ok text) status same is said = absurd (is refl)
 complete_served Make old mid (Err (tool.Open error)) status same is said = inl (inr (says_fault old mid (fault.Tool (tool.Open error)) status said ∙ ap base_status is))
 complete_served Make old mid (Err (tool.BadJournal at)) status same is said = absurd is
 complete_served Make old mid (Err tool.AlreadyThere) status same is said = inr (says_fault old mid (fault.Tool tool.AlreadyThere) status said)
 complete_served Make old mid (Err (tool.TextFull n)) status same is said = absurd (cc (is))
+complete_served Make old mid (Err (tool.NotEmpty file)) status same is said = absurd is
 complete_served Pack old mid (Ok text) status same is said = inl (inl (says_text old mid text status same said))
 complete_served Pack old mid (Err (tool.Open error)) status same is said = inl (inr (says_fault old mid (fault.Tool (tool.Open error)) status said ∙ ap base_status is))
 complete_served Pack old mid (Err (tool.BadJournal at)) status same is said = absurd is
 complete_served Pack old mid (Err tool.AlreadyThere) status same is said = absurd (cc (is))
 complete_served Pack old mid (Err (tool.TextFull n)) status same is said = inr (says_fault old mid (fault.Tool (tool.TextFull n)) status said)
+complete_served Pack old mid (Err (tool.NotEmpty file)) status same is said = absurd is
 
 -- a base that was made, or memory was wanting
 made_served : (old mid : Desk) (answer : Result (List ℕ) ToolError) (status : ℕ) → mid.console ≡ old.console → IsDoneOrNoMemory answer
@@ -405,34 +448,83 @@ module _ (serves : ServesWhatOpens) (makes : MakesWhereNoneIs) where
   tool_six Pack status six = inl (inr six)
   tool_six Relink status six = inr six
 
+-- the disks of a backup are those that are there
+place_files : (property : Files → Type 0) (dir name : List ℕ) (device : Device) (disks : Disks) (there : HasFiles property disks dir name) → disks dir name ≡ has_disk device
+    → device.contents ≡ Some there.files
+place_files property dir name device disks there was =
+    let same : there.device ≡ device = ap (device_in there.device) (sym there.stands ∙ was) in
+    ap (λ (d : Device). d.contents) (sym same) ∙ there.told
+
+-- a complete answer of a backup onto empty files, as its status
+backup_served : (old mid : Desk) (answer : Result (List ℕ) ToolError) (status : ℕ) (target : Device) (files : Files) → mid.console ≡ old.console → target.contents ≡ Some files
+    → AreEmpty files → IsCompleteBackup target answer → IsSaid old mid (run_answer answer) status → IsDone status
+backup_served old mid (Ok text) status target files same told empty is said = inl (says_text old mid text status same said)
+backup_served old mid (Err (tool.Open error)) status target files same told empty is said = inr (says_fault old mid (fault.Tool (tool.Open error)) status said ∙ ap base_status is)
+backup_served old mid (Err (tool.NotEmpty file)) status target files same told empty is said = absurd ((is files told).full (empty file))
+backup_served old mid (Err (tool.BadJournal at)) status target files same told empty is said = absurd is
+backup_served old mid (Err tool.AlreadyThere) status target files same told empty is said = absurd is
+backup_served old mid (Err (tool.TextFull n)) status target files same told empty is said = absurd is
+
+module _ (backs : BacksUpWhatOpens) (dir name onto : List ℕ) (old mid : Desk) (status : ℕ) (disks : Disks) (told : old.disks ≡ Some disks)
+    (base : HasFiles (OpensWithin MOST_SLOTS) disks dir name) (empty : HasFiles AreEmpty disks onto name) (same : mid.console ≡ old.console) where
+  backup_answer : (answer : Result (List ℕ) ToolError) (uses : UsesDisks dir name onto old mid (run_answer answer))
+      → AnswersBackup uses.before uses.then uses.target uses.target_then answer → IsSaid old mid (run_answer answer) status → IsDone status
+  backup_answer answer uses answers said =
+      let were = uses.was disks told in
+      backup_served old mid answer status uses.target empty.files same (place_files AreEmpty onto name uses.target disks empty were.1) empty.has
+      (backs base.files uses.before uses.then uses.target uses.target_then answer base.has (record {
+        told = place_files (OpensWithin MOST_SLOTS) dir name uses.before disks base were.0;
+        answers = answers;
+        quiet = base_quiet dir name onto old mid (run_answer answer) said.host uses;
+        target_quiet = target_quiet dir name onto old mid (run_answer answer) said.host uses;
+      })) said
+
+  backup_over : (answer : RunAnswer) → UsesDisks dir name onto old mid answer → IsSaid old mid answer status → IsDone status
+  backup_over (Ok (Text text)) uses said = backup_answer (Ok text) uses uses.answers said
+  backup_over (Ok (Session end)) uses said = absurd uses.answers
+  backup_over (Ok (Nodes end)) uses said = absurd uses.answers
+  backup_over (Err (fault.Tool error)) uses said = backup_answer (Err error) uses uses.answers said
+  backup_over (Err fault.Words) uses said = absurd uses.answers
+  backup_over (Err (fault.Settings error)) uses said = absurd uses.answers
+  backup_over (Err (fault.Area place error)) uses said = absurd uses.answers
+  backup_over (Err fault.HostFault) uses said = absurd uses.answers
+  backup_over (Err fault.OutOfMemory) uses said = absurd uses.answers
+
 module _ (opens : RefusesNoOpenBoard) where
-  local_served_there : (path : List ℕ) (old mid : Desk) (came : Result LocalEnd RunError) (status : ℕ) → RunsLocal path old mid came → HasOpenBoard old path
+  local_served_there : (path : List ℕ) (old mid : Desk) (came : Result LocalEnd RunError) (status : ℕ) → RunsLocal path old mid came → HasOpenBoard old path None
       → IsSaid old mid (answer_behind came) status → IsDone status ⊎ (status ≡ 7)
   local_served_there path old mid (Ok end) status runs there said = local_end_served path old mid end status runs said
   local_served_there path old mid (Err error) status runs there said =
-      inl (inr (refusal_memory error old mid status (opens path None old mid error (inl runs) said.host there) said))
+      inl (inr (refusal_memory error old mid status (opens path None None old mid error (inl runs) said.host there) said))
 
-  nodes_served_there : (door_for : Option ℕ → Gate → Type 0) (bell_over : ℕ → ℕ → Option ℕ → Rings → Type 0) (path : List ℕ) (most : Option ℕ) (old mid : Desk)
-      (came : Result NodesEnd RunError) (status : ℕ) → RunsNodes door_for bell_over path most old mid came → HasOpenBoard old path
+  nodes_served_there : (door_for : Option ℕ → Gate → Type 0) (bell_over : ℕ → ℕ → Option ℕ → Rings → Type 0) (path : List ℕ) (most : Option ℕ) (backup : Option (List ℕ))
+      (old mid : Desk) (came : Result NodesEnd RunError) (status : ℕ) → RunsNodes door_for bell_over path most backup old mid came → HasOpenBoard old path backup
       → IsSaid old mid (answer_behind_nodes came) status → IsDone status
-  nodes_served_there door_for bell_over path most old mid (Ok end) status runs there said = inl (nodes_end_served door_for bell_over path most old mid end status runs said)
-  nodes_served_there door_for bell_over path most old mid (Err error) status runs there said =
-      inr (refusal_memory error old mid status (opens path most old mid error (inr runs) said.host there) said)
+  nodes_served_there door_for bell_over path most backup old mid (Ok end) status runs there said = inl (nodes_end_served door_for bell_over path most backup old mid end status runs said)
+  nodes_served_there door_for bell_over path most backup old mid (Err error) status runs there said =
+      inr (refusal_memory error old mid status (opens path most backup old mid error (inr runs) said.host there) said)
 
-module _ (opens : RefusesNoOpenBoard) (serves : ServesWhatOpens) (makes : MakesWhereNoneIs) (door_for : Option ℕ → Gate → Type 0) (bell_over : ℕ → ℕ → Option ℕ → Rings → Type 0) where
+module _ (opens : RefusesNoOpenBoard) (serves : ServesWhatOpens) (makes : MakesWhereNoneIs) (backs : BacksUpWhatOpens) (door_for : Option ℕ → Gate → Type 0) (bell_over : ℕ → ℕ → Option ℕ → Rings → Type 0) where
   words_served : (line : Option Words) (moment : ℕ) (old mid : Desk) (answer : RunAnswer) (status : ℕ) → AnswersWords door_for bell_over line moment old mid answer
       → IsThere line old → IsSaid old mid answer status → IsServedWith line status
   words_served None moment old mid answer status answers there said =
       says_fault old mid fault.Words status (said_as old mid answer (Err fault.Words) status answers.0 said)
   words_served (Some (use_tool of dir name)) moment old mid answer status answers there said = elim answers.disk [
-    | inl none ↦ tool_six serves makes of status (none_done old mid answer status none said)
+    | inl none ↦ tool_six serves makes of status (refused_done old mid answer status none.2 said)
     | inr uses ↦ tool_over serves makes of moment dir name old mid answer status there.0 there.1 there.2 answers.rest.console uses said
+  ]
+  words_served (Some (back_up dir name onto)) moment old mid answer status answers there said = elim answers.disks [
+    | inl none ↦ inr (refused_done old mid answer status none.0.2 said)
+    | inr later ↦ elim later [
+      | inl untargeted ↦ inr (refused_done old mid answer status untargeted.refused said)
+      | inr uses ↦ backup_over backs dir name onto old mid status there.0 there.1 there.2 there.3 answers.rest.console answer uses said
+    ]
   ]
   words_served (Some (run_load seed count)) moment old mid answer status answers there said = says_done old mid _ answer status answers.0 answers.1 said
   words_served (Some (serve_one path)) moment old mid answer status answers there said =
       local_served_there opens path old mid answers.came status answers.runs there (said_as old mid answer (answer_behind answers.came) status answers.is said)
-  words_served (Some (serve_all path calls)) moment old mid answer status answers there said =
-      nodes_served_there opens door_for bell_over path calls old mid answers.came status answers.runs there
+  words_served (Some (serve_all path calls backup)) moment old mid answer status answers there said =
+      nodes_served_there opens door_for bell_over path calls backup old mid answers.came status answers.runs there
       (said_as old mid answer (answer_behind_nodes answers.came) status answers.is said)
   words_served (Some show_help) moment old mid answer status answers there said = says_done old mid _ answer status answers.0 answers.1 said
 

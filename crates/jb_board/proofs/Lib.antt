@@ -1,2 +1,3 @@
 pub mod Placing
 mod Completing
+mod WordLemmas

@@ -7,10 +7,11 @@ use Rattle.jb_conf.specs.declared.error.ConfError.{ConfError}
 use Rattle.jb_conf.specs.declared.error.ConfError.TheVariants as conf
 use Rattle.jb_run.specs.declared.error.RunError.{RunError}
 use Rattle.jb_run.specs.declared.error.RunError.TheVariants as no_session
+use Rattle.jb_disk.specs.Files.{file_number}
 use Rattle.jb_image.specs.declared.error.OpenError.{OpenError}
 use Rattle.jb_image.specs.declared.error.OpenError.TheVariants as refused
 use Rattle.jb_tool.specs.declared.error.ToolError.{ToolError}
-use Rattle.jb_tool.specs.declared.error.ToolError.TheVariants.{BadJournal, Open, AlreadyThere, TextFull}
+use Rattle.jb_tool.specs.declared.error.ToolError.TheVariants.{BadJournal, Open, AlreadyThere, TextFull, NotEmpty}
 use Rattle.jb_board.specs.declared.fault.Fault.{Fault}
 use Rattle.jb_board.specs.declared.fault.Fault.TheVariants.{Words, Settings, Area, Tool, HostFault, OutOfMemory}
 
@@ -26,6 +27,7 @@ tool_status (BadJournal at) = 3
 tool_status (Open error) = base_status error
 tool_status AlreadyThere = 3
 tool_status (TextFull length) = 3
+tool_status (NotEmpty file) = 3
 
 -- the exit status of an area of a board that is not opened
 abbrev pub area_status : OpeningError → ℕ
@@ -44,7 +46,7 @@ fault_of (no_session.Area place error) = Area place error
 fault_of no_session.HostFault = HostFault
 fault_of no_session.OutOfMemory = OutOfMemory
 
--- the exit status: 1 words, 2 settings, 3 the journal or the base is refused, 4 a store fault, 5 a host fault, 6 want of memory
+-- the exit status: 1 words, 2 settings, 3 the journal, the base or the place of a backup is refused, 4 a store fault, 5 a host fault, 6 want of memory
 abbrev pub status_of : Fault → ℕ
 status_of Words = 1
 status_of (Settings error) = settings_status error
@@ -81,6 +83,7 @@ tool_fault_line (BadJournal at) = codes "fault 3.14 BadJournal" ++ value_text at
 tool_fault_line (Open error) = base_line error
 tool_fault_line AlreadyThere = codes "fault 3.17 AlreadyThere"
 tool_fault_line (TextFull length) = codes "fault 3.18 TextFull" ++ value_text length
+tool_fault_line (NotEmpty file) = codes "fault 3.19 NotEmpty" ++ value_text (file_number file)
 
 -- the line of an area that is not opened, without its end
 abbrev pub opening_line : OpeningError → List ℕ

@@ -1,6 +1,7 @@
 -- That a run fails only where something has failed, and that what is there and opens is served.
 use Rattle.std.specs.Prelude.{◌≡◌, ◌≢◌, ◌⊎◌, ℕ, List, Option, Some, None}
 use Rattle.jb_area_open.specs.Laws.{OpensWithin}
+use Rattle.jb_backup.specs.Target.{AreEmpty}
 use Rattle.jb_bytes.specs.Fault.{Rose}
 use Rattle.jb_host.specs.Desk.{Desk, Disks}
 use Rattle.jb_host.specs.Gate.{Gate}
@@ -12,7 +13,7 @@ use Rattle.jb_tool.specs.Laws.{HoldNoBase}
 use Rattle.jb_tool.specs.declared.tool.Tool.{Tool}
 use Rattle.jb_tool.specs.declared.tool.Tool.TheVariants.{List as Listing, Check, Make, Pack, Relink}
 use Rattle.jb_board.specs.Run.{HasRun}
-use Rattle.jb_board.specs.Words.{Words, use_tool, run_load, serve_one, serve_all, show_help, command_line_of}
+use Rattle.jb_board.specs.Words.{Words, use_tool, back_up, run_load, serve_one, serve_all, show_help, command_line_of}
 
 -- nothing has failed: no count of the host rose, nor that of what came back and had failed, nor that of the console
 pub record NothingFailed (old new : Desk) : Type 0 where
@@ -31,9 +32,11 @@ IsForTool Relink disks dir name = HasFiles (OpensWithin MOST_SLOTS) disks dir na
 abbrev pub IsThere : Option Words → Desk → Type 0
 IsThere None old = Unit {0}
 IsThere (Some (use_tool tool dir name)) old = (disks : Disks) × (old.disks ≡ Some disks) × IsForTool tool disks dir name
+IsThere (Some (back_up dir name onto)) old =
+    (disks : Disks) × (old.disks ≡ Some disks) × HasFiles (OpensWithin MOST_SLOTS) disks dir name × HasFiles AreEmpty disks onto name
 IsThere (Some (run_load seed count)) old = Unit {0}
-IsThere (Some (serve_one path)) old = HasOpenBoard old path
-IsThere (Some (serve_all path calls)) old = HasOpenBoard old path
+IsThere (Some (serve_one path)) old = HasOpenBoard old path None
+IsThere (Some (serve_all path calls backup)) old = HasOpenBoard old path backup
 IsThere (Some show_help) old = Unit {0}
 
 -- done, or there was no memory
@@ -52,9 +55,10 @@ IsToolServed Relink status = IsDone status
 abbrev pub IsServedWith : Option Words → ℕ → Type 0
 IsServedWith None status = status ≡ 1
 IsServedWith (Some (use_tool tool dir name)) status = IsToolServed tool status
+IsServedWith (Some (back_up dir name onto)) status = IsDone status
 IsServedWith (Some (run_load seed count)) status = IsDone status
 IsServedWith (Some (serve_one path)) status = IsDone status ⊎ (status ≡ 7)
-IsServedWith (Some (serve_all path calls)) status = IsDone status
+IsServedWith (Some (serve_all path calls backup)) status = IsDone status
 IsServedWith (Some show_help) status = IsDone status
 
 -- whatever a host says of its doors and its bell

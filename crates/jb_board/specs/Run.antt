@@ -1,9 +1,12 @@
 -- A whole run of the program: what is asked of the host, what is printed, and the status.
 use Rattle.std.specs.Prelude.{◌≡◌, ◌⊎◌, ℕ, ◌≤◌, List, Option, Some, None, Result, Ok, Err}
 use Rattle.std.specs.Option.{ForSome}
+use Rattle.jb_area_open.specs.Opening.{KeepsOpening}
 use Rattle.jb_bytes.specs.Fault.{Rose}
 use Rattle.jb_disk.specs.Device.{Device}
-use Rattle.jb_host.specs.Desk.{CountsFailed, Desk, KeepsRest, has_disk, with_place, asked_disk, and_call}
+use Rattle.jb_host.specs.Desk.{CountsFailed, Desk, HostCall, KeepsRest, has_disk, with_place, asked_disk, and_call}
+use Rattle.jb_host.specs.declared.host.HostError.{HostError}
+use Rattle.jb_host.specs.declared.host.HostError.TheVariants.{Failed, OutOfMemory as no_memory}
 use Rattle.jb_host.specs.Gate.{Gate}
 use Rattle.jb_host.specs.Readings.{reading_of}
 use Rattle.jb_host.specs.Rings.{Rings}
@@ -18,6 +21,7 @@ use Rattle.jb_run.specs.NodesEnding.{nodes_status as status_behind_nodes}
 use Rattle.jb_run.specs.Nodes.{RunsNodes}
 use Rattle.jb_run.specs.declared.nodes_end.NodesEnd.{NodesEnd}
 use Rattle.jb_tool.specs.Answers.{AnswersTool, KeepsUnderTool}
+use Rattle.jb_tool.specs.Backing.{AnswersBackup}
 use Rattle.jb_tool.specs.declared.error.ToolError.{ToolError}
 use Rattle.jb_tool.specs.declared.tool.Tool.{Tool as ToolName}
 use Rattle.jb_board.specs.declared.fault.Fault.{Fault}
@@ -25,7 +29,7 @@ use Rattle.jb_board.specs.declared.fault.Fault.TheVariants.{Words as NoWords, To
 use Rattle.jb_board.specs.declared.top.Outcome.{Outcome}
 use Rattle.jb_board.specs.declared.top.Outcome.TheVariants.{Text, Session, Nodes}
 use Rattle.jb_board.specs.Faults.{fault_of, fault_line, status_of}
-use Rattle.jb_board.specs.Words.{Words, use_tool, run_load, serve_one, serve_all, show_help, command_line_of, help_text}
+use Rattle.jb_board.specs.Words.{Words, use_tool, back_up, run_load, serve_one, serve_all, show_help, command_line_of, help_text}
 
 -- what a run answers: the text to print, a session or a run with many nodes that has ended, or why it is refused
 abbrev pub RunAnswer : Type 0
@@ -53,15 +57,63 @@ pub record UsesDisk (tool : ToolName) (moment : ℕ) (dir name : List ℕ) (old 
   pub crash : KeepsUnderTool tool moment before then
   pub later : before.faults ≤ then.faults
 
+-- a refusal of the host, as the fault of a run
+abbrev pub fault_of_host : HostError → Fault
+fault_of_host Failed = HostFault
+fault_of_host no_memory = OutOfMemory
+
+-- why a disk was not handed out, by the host's count of faults before and after
+abbrev pub RefusesDisk : ℕ → ℕ → RunAnswer → Type 0
+RefusesDisk before now answer = ((answer ≡ Err HostFault) × Rose before now) ⊎ ((answer ≡ Err OutOfMemory) × (now ≡ before))
+
+-- this was the last call of the host, or its refusal for want of memory, which it does not tell
+abbrev pub AsksLast : HostCall → RunAnswer → Option (List HostCall) → Option (List HostCall) → Type 0
+AsksLast call answer before now = (now ≡ and_call call before) ⊎ ((answer ≡ Err OutOfMemory) × (now ≡ before))
+
 -- no disk was handed out, and why
 abbrev pub GetsNoDisk : Desk → Desk → RunAnswer → Type 0
-GetsNoDisk old new answer =
-    (new.disks ≡ old.disks) × (new.failed ≡ old.failed) × (((answer ≡ Err HostFault) × Rose old.faults new.faults) ⊎ ((answer ≡ Err OutOfMemory) × (new.faults ≡ old.faults)))
+GetsNoDisk old new answer = (new.disks ≡ old.disks) × (new.failed ≡ old.failed) × RefusesDisk old.faults new.faults answer
 
 -- the run of a tool: one call of the host, for that disk alone; want of memory hides no fault of the host
 pub record UsesTool (tool : ToolName) (moment : ℕ) (dir name : List ℕ) (old new : Desk) (answer : RunAnswer) : Type 0 where
-  pub calls : (new.calls ≡ and_call (asked_disk dir name) old.calls) ⊎ ((answer ≡ Err OutOfMemory) × (new.calls ≡ old.calls))
+  pub calls : AsksLast (asked_disk dir name) answer old.calls new.calls
   pub disk : GetsNoDisk old new answer ⊎ UsesDisk tool moment dir name old new answer
+  pub rest : KeepsRest old (record new { faults = old.faults; failed = old.failed })
+  pub later : old.faults ≤ new.faults
+
+-- a backup answers so over the disks of the base and of the backup
+abbrev pub BacksUpOver : Device → Device → Device → Device → RunAnswer → Type 0
+BacksUpOver before after target target_now (Ok (Text text)) = AnswersBackup before after target target_now (Ok text)
+BacksUpOver before after target target_now (Err (Tool error)) = AnswersBackup before after target target_now (Err error)
+BacksUpOver before after target target_now _ = ⊥
+
+-- the disk of the base was handed out and put back as it was, since that of the backup was not, and why
+pub record GetsNoTarget (dir name onto : List ℕ) (old new : Desk) (answer : RunAnswer) : Type 0 where
+  pub before : Device
+  pub was : ForSome old.disks (λ disks. disks dir name ≡ has_disk before)
+  pub back : ForSome old.disks (λ disks. new.disks ≡ Some (with_place dir name (has_disk before) disks))
+  pub calls : AsksLast (asked_disk onto name) answer (and_call (asked_disk dir name) old.calls) new.calls
+  pub failed : CountsFailed before.faults old.failed new.failed
+  pub refused : RefusesDisk old.faults new.faults answer
+
+-- both disks were handed out, one right after the other, the base backed up, and both put back; which disks these are, where the host tells its disks
+pub record UsesDisks (dir name onto : List ℕ) (old new : Desk) (answer : RunAnswer) : Type 0 where
+  pub before : Device
+  pub then : Device
+  pub target : Device
+  pub target_then : Device
+  pub was : ForSome old.disks (λ disks. (disks dir name ≡ has_disk before) × (disks onto name ≡ has_disk target))
+  pub back : ForSome old.disks (λ disks. new.disks ≡ Some (with_place onto name (has_disk target_then) (with_place dir name (has_disk then) disks)))
+  pub calls : new.calls ≡ and_call (asked_disk onto name) (and_call (asked_disk dir name) old.calls)
+  pub faults : new.faults ≡ old.faults
+  pub failed : (mid : ℕ) × CountsFailed then.faults old.failed mid × CountsFailed target_then.faults mid new.failed
+  pub answers : BacksUpOver before then target target_then answer
+  pub crash : KeepsOpening before then
+
+-- the run of a backup: two calls of the host, for these disks alone; or one of them was not handed out
+pub record UsesBackup (dir name onto : List ℕ) (old new : Desk) (answer : RunAnswer) : Type 0 where
+  pub disks : (GetsNoDisk old new answer × AsksLast (asked_disk dir name) answer old.calls new.calls)
+      ⊎ (GetsNoTarget dir name onto old new answer ⊎ UsesDisks dir name onto old new answer)
   pub rest : KeepsRest old (record new { faults = old.faults; failed = old.failed })
   pub later : old.faults ≤ new.faults
 
@@ -88,18 +140,19 @@ answer_behind_nodes (Err error) = Err (fault_of error)
 -- of doors and bells that are as their host says of the calls, areas and minutes that they were asked for
 module _ (door_for : Option ℕ → Gate → Type 0) (bell_over : ℕ → ℕ → Option ℕ → Rings → Type 0) where
   -- all nodes serve, or why none does
-  pub record ServesNodes (path : List ℕ) (calls : Option ℕ) (old new : Desk) (answer : RunAnswer) : Type 0 where
+  pub record ServesNodes (path : List ℕ) (calls : Option ℕ) (backup : Option (List ℕ)) (old new : Desk) (answer : RunAnswer) : Type 0 where
     pub came : Result NodesEnd RunError
-    pub runs : RunsNodes door_for bell_over path calls old new came
+    pub runs : RunsNodes door_for bell_over path calls backup old new came
     pub is : answer ≡ answer_behind_nodes came
 
   -- the run of these words, if they are a command line; where no tool is used and nobody is served, the host is asked for nothing
   abbrev pub AnswersWords : Option Words → ℕ → Desk → Desk → RunAnswer → Type 0
   AnswersWords None moment old new answer = (answer ≡ Err NoWords) × (new ≡ old)
   AnswersWords (Some (use_tool tool dir name)) moment old new answer = UsesTool tool moment dir name old new answer
+  AnswersWords (Some (back_up dir name onto)) moment old new answer = UsesBackup dir name onto old new answer
   AnswersWords (Some (run_load seed count)) moment old new answer = SaysText (run_summary (load_run seed count)) answer × (new ≡ old)
   AnswersWords (Some (serve_one path)) moment old new answer = ServesLocal path old new answer
-  AnswersWords (Some (serve_all path calls)) moment old new answer = ServesNodes path calls old new answer
+  AnswersWords (Some (serve_all path calls backup)) moment old new answer = ServesNodes path calls backup old new answer
   AnswersWords (Some show_help) moment old new answer = SaysText help_text answer × (new ≡ old)
 
 -- a write of the console failed, and only a beginning of these bytes was sent

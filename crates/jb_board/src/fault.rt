@@ -48,7 +48,10 @@ fn tool_status(error: ToolError) -> u8
 {
     match error {
         ToolError::Open(error) => base_status(error),
-        ToolError::BadJournal { .. } | ToolError::AlreadyThere | ToolError::TextFull { .. } => 3,
+        ToolError::BadJournal { .. }
+        | ToolError::AlreadyThere
+        | ToolError::TextFull { .. }
+        | ToolError::NotEmpty { .. } => 3,
     }
 }
 
@@ -125,6 +128,9 @@ fn tool_line(error: ToolError) -> Line
         ToolError::Open(error) => base_line(error),
         ToolError::AlreadyThere => named("fault 3.17 AlreadyThere"),
         ToolError::TextFull { length } => and_place(named("fault 3.18 TextFull"), length),
+        ToolError::NotEmpty { file } => {
+            and_value(named("fault 3.19 NotEmpty"), u32::from(file.number()))
+        }
     }
 }
 

@@ -6,6 +6,7 @@ use crate::fault::Fault;
 use jb_area_open::OpeningError;
 use jb_base::OutOfMemory;
 use jb_host::Host;
+use jb_image::OpenError;
 use jb_run::meaning;
 use jb_tool::ToolError;
 use std::alloc::Global;
@@ -18,6 +19,9 @@ fn of_tool(error: ToolError) -> &'static str {
         ToolError::AlreadyThere => "there is a base already: one of its files holds something",
         ToolError::TextFull { .. } => {
             "the texts of its live messages have so many bytes together; 1,073,741,824 are the most"
+        }
+        ToolError::NotEmpty { .. } => {
+            "a file of the backup holds something already, that of this number from 0 for .JHR to 5 for .NDT: name another folder, or take a broken backup away"
         }
     }
 }
@@ -34,6 +38,28 @@ fn of_fault(fault: Fault) -> &'static str {
     }
 }
 
+/// The line for the operator where a base is not backed up: of the base where it is not opened, of the backup where something is there
+/// already, and of both where it is not known which of them failed.
+fn of_backup(
+    alloc: Global,
+    dir: &str,
+    name: &str,
+    onto: &str,
+    fault: Fault,
+) -> Result<String, OutOfMemory> {
+    let told = of_fault(fault);
+    let line = match fault {
+        Fault::Tool(ToolError::NotEmpty { .. }) => {
+            format!(in alloc; "board: {onto}/{name}: {told}")?
+        }
+        Fault::Tool(ToolError::Open(OpenError::StoreFault)) => {
+            format!(in alloc; "board: {dir}/{name} or {onto}/{name}: {told}")?
+        }
+        _ => format!(in alloc; "board: {dir}/{name}: {told}")?,
+    };
+    Ok(line)
+}
+
 /// The line for the operator: of which base or settings file the refusal is, and what it means.
 fn explanation(alloc: Global, words: &[String], fault: Fault) -> Result<String, OutOfMemory> {
     let told = of_fault(fault);
@@ -42,6 +68,7 @@ fn explanation(alloc: Global, words: &[String], fault: Fault) -> Result<String, 
             let line = format!(in alloc; "board: {dir}/{name}: {told}")?;
             Ok(line)
         }
+        Some(CommandLine::Backup { dir, name, onto }) => of_backup(alloc, dir, name, onto, fault),
         Some(CommandLine::Local { path } | CommandLine::Serve { path, .. }) => {
             let line = format!(in alloc; "board: {path}: {told}")?;
             Ok(line)

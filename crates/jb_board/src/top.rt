@@ -1,10 +1,11 @@
 //! The program over any host.
-ghost use Rattle.std.specs.Prelude.{◌≡◌, ◌≤◌, Err, IfOk, IsSome, Ok, OnErr, Some, map};
+ghost use Rattle.std.specs.Prelude.{◌≡◌, ◌≢◌, ◌≤◌, Err, IfOk, IsSome, Ok, OnErr, Some, map};
 ghost use Rattle.std.specs.String.{string_bytes};
-ghost use Rattle.jb_board.specs.Run.{AnswersWords, HasRun, IsPrinted, ServesLocal, ServesNodes, UsesTool, run_answer};
+ghost use Rattle.jb_board.specs.Run.{AnswersWords, HasRun, IsPrinted, ServesLocal, ServesNodes, UsesBackup, UsesTool, fault_of_host, run_answer};
 ghost use Rattle.jb_board.specs.declared.top.Outcome.TheVariants.{Text as is_text};
 ghost use Rattle.jb_board.specs.Words.{command_line_of};
 ghost use Rattle.jb_board.specs.declared.fault.Fault.TheVariants.{OutOfMemory as no_memory};
+ghost use Rattle.jb_run.specs.Nodes.{lent_path};
 
 use crate::command::{CommandLine, command};
 use crate::fault::Fault;
@@ -19,7 +20,7 @@ use std::thread::Threads;
 
 /// The forms of words, each with the program's name before it.
 const HELP: &[u8] =
-    b"board list DIR NAME\nboard check DIR NAME\nboard make DIR NAME\nboard pack DIR NAME\nboard relink DIR NAME\nboard load SEED COUNT\nboard local CONF\nboard serve CONF\nboard serve CONF --calls N\nboard help\n";
+    b"board list DIR NAME\nboard check DIR NAME\nboard make DIR NAME\nboard pack DIR NAME\nboard relink DIR NAME\nboard load SEED COUNT\nboard local CONF\nboard serve CONF\nboard serve CONF --calls N\nboard backup DIR NAME DIR2\nboard serve CONF --calls N --backup DIR2\nboard help\n";
 
 /// What a run that is not refused comes to.
 #[derive(Drop)]
@@ -53,6 +54,16 @@ fn told(text: Result<Bytes, OutOfMemory>) -> Result<Outcome, Fault>
     }
 }
 
+/// A refusal of the host, as the fault of a run.
+fn of_host(error: HostError) -> Fault
+    ensures { result ≡ fault_of_host error }
+{
+    match error {
+        HostError::Failed => Fault::HostFault,
+        HostError::OutOfMemory => Fault::OutOfMemory,
+    }
+}
+
 /// What a tool answers over the disk that the host has for the base; the disk is put back.
 fn use_tool<H: Host>(
     alloc: Global,
@@ -66,11 +77,39 @@ fn use_tool<H: Host>(
 {
     let disk = match host.disk(dir, name) {
         Ok(disk) => disk,
-        Err(HostError::Failed) => return Err(Fault::HostFault),
-        Err(HostError::OutOfMemory) => return Err(Fault::OutOfMemory),
+        Err(error) => return Err(of_host(error)),
     };
     let (disk, answer) = jb_tool::run(alloc, disk, tool, moment);
     host.put_back(dir, name, disk);
+    answered(answer)
+}
+
+/// What a backup answers over the disks that the host has for the base and, by the same name in another folder, for the backup; both
+/// are put back.
+fn use_backup<H: Host>(
+    alloc: Global,
+    dir: &str,
+    name: &str,
+    onto: &str,
+    host: &mut H,
+) -> Result<Outcome, Fault>
+    requires { onto.now ≢ dir.now }
+    ensures { UsesBackup dir.now name.now onto.now (H.desk host.old) (H.desk host.new) result }
+{
+    let base = match host.disk(dir, name) {
+        Ok(base) => base,
+        Err(error) => return Err(of_host(error)),
+    };
+    let target = match host.disk(onto, name) {
+        Ok(target) => target,
+        Err(error) => {
+            host.put_back(dir, name, base);
+            return Err(of_host(error));
+        }
+    };
+    let (base, target, answer) = jb_tool::backup(alloc, base, target, host);
+    host.put_back(dir, name, base);
+    host.put_back(onto, name, target);
     answered(answer)
 }
 
@@ -93,6 +132,7 @@ fn serve_all<R: Threads + Wait + Sync, H: Host>(
     alloc: Global,
     path: &str,
     calls: Option<u32>,
+    backup: Option<&str>,
     host: &mut H,
 ) -> Result<Outcome, Fault>
 where
@@ -101,9 +141,10 @@ where
     <H::Door as Door>::Link: Send,
     H::Bell: Send,
     H::Clock: Send,
-    ensures { ServesNodes H.door_for H.bell_over path.now calls (H.desk host.old) (H.desk host.new) result }
+    ensures { ServesNodes H.door_for H.bell_over path.now calls (lent_path backup.entry)
+        (H.desk host.old) (H.desk host.new) result }
 {
-    Ok(Outcome::Nodes(serve_nodes(rt, alloc, host, path, calls)?))
+    Ok(Outcome::Nodes(serve_nodes(rt, alloc, host, path, calls, backup)?))
 }
 
 /// What these words are answered.
@@ -129,9 +170,16 @@ where
         Some(CommandLine::Use { tool, dir, name }) => use_tool(
             alloc, tool, moment, dir, name, host,
         ),
+        Some(CommandLine::Backup { dir, name, onto }) => use_backup(alloc, dir, name, onto, host),
         Some(CommandLine::Load { seed, count }) => told(load_in_memory(alloc, seed, count)),
         Some(CommandLine::Local { path }) => serve(rt, alloc, path, host),
-        Some(CommandLine::Serve { path, calls }) => serve_all(rt, alloc, path, calls, host),
+        Some(
+            CommandLine::Serve {
+                path,
+                calls,
+                backup,
+            },
+        ) => serve_all(rt, alloc, path, calls, backup, host),
         Some(CommandLine::Help) => told(Bytes::copy(alloc, HELP)),
         None => Err(Fault::Words),
     }
@@ -174,14 +222,15 @@ fn tell_refusal<H: Host>(
 /// or many at the host's doors, and gives the exit status.
 ///
 /// 0: done and printed whole, a session that its caller ended, or a run with many nodes whose doors were shut. 1: the words are no
-/// command line. 2: the settings are refused. 3: the base is refused. 4: its disk failed, or an area is in doubt behind a session or a
-/// run with many nodes. 5: the host, the console or a door failed. 6: want of memory. 7: a session that was ended by three refused
-/// log-ins, or took all that it may take. Under a status other than 0 the console has one line that begins with `fault`, or, where the
-/// console itself failed, a beginning of what was to be printed; but nothing is printed behind a session or a run with many nodes. What
-/// the refusal means is told the operator where the host has a way to (`Host::note`).
-/// Nothing is read from the console but by a session. The host is asked for the disk of the base alone, at most once, or for the
-/// settings and then for the disk of each area, in order, and then for the doors of all nodes, that of news where the settings have a
-/// port for it, and the bell, where many are served, and has all back when the call returns.
+/// command line. 2: the settings are refused. 3: the base is refused, or a file of its backup holds something. 4: a disk failed, or an
+/// area is in doubt behind a session or a run with many nodes. 5: the host, the console or a door failed. 6: want of memory. 7: a session
+/// that was ended by three refused log-ins, or took all that it may take. Under a status other than 0 the console has one line that
+/// begins with `fault`, or, where the console itself failed, a beginning of what was to be printed; but nothing is printed behind a
+/// session or a run with many nodes. What the refusal means is told the operator where the host has a way to (`Host::note`).
+/// Nothing is read from the console but by a session. The host is asked for the disk of the base alone, at most once, and right behind it
+/// for that of its backup where one is made; or for the settings and then for the disk of each area, in order, those of their backups
+/// where they are to be made, and then for the doors of all nodes, that of news where the settings have a port for it, and the bell,
+/// where many are served. It has all back when the call returns.
 pub fn board<R: Threads + Wait + Sync, H: Host>(
     rt: &R,
     alloc: Global,

@@ -1,6 +1,6 @@
 -- Settings and bases that are there and open are refused for nothing but a fault or want of memory.
 use Rattle.std.proofs.Common.{◌≡◌, ℕ, ◌+◌, ◌<◌, Bool, true, false, ◌&&◌, List, [], ◌∷◌, ◌++◌, length, inl, inr, ap, sym, subst, ◌∙◌, refl, length-append, arith}
-use Rattle.std.specs.Prelude.{◌⊎◌, bytes_eq, if◌then◌else◌, slice_index_or, unwrap_or, Option, Some, Err}
+use Rattle.std.specs.Prelude.{◌⊎◌, bytes_eq, if◌then◌else◌, slice_index_or, take, unwrap_or, Option, Some, Err}
 use Rattle.std.specs.Option.{option_map}
 use Rattle.std.proofs.Math.Seq.{get_or-append_seam}
 use Rattle.jb_area_open.specs.Laws.{IsNotOfBase, OpensWithin, RefusesNothingThatOpens}
@@ -20,10 +20,12 @@ use Rattle.jb_image.specs.declared.error.OpenError.{OpenError}
 use Rattle.jb_image.specs.declared.error.OpenError.TheVariants as refused
 use Rattle.jb_run.specs.All.{RefusesAll, RefusesNext}
 use Rattle.jb_run.specs.AreasErrors.{RefusesArea, RefusesDisk, ReturnsDisk, refused_at}
-use Rattle.jb_run.specs.Begins.{BeginsNone, RefusesAreas, RefusesLines, RefusesSettings}
+use Rattle.jb_run.specs.Begins.{BeginsNone, LacksTarget, RefusesAreas, RefusesLines, RefusesSettings}
 use Rattle.jb_run.specs.Desks.{BasePlace, places_of, with_places_out}
 use Rattle.jb_run.specs.Laws.{HasFiles, HasNotFailed, HasOpenBoard, RefusesNoOpenBoard, SayOpenBoard}
 use Rattle.jb_run.specs.LocalEnding.{of_areas, of_host, of_settings}
+use Rattle.jb_run.specs.Targets.{HaveAllTargets, HaveTargets, has_no_target}
+use Rattle.jb_run.proofs.EachLemmas.{one_of}
 use Rattle.jb_run.specs.declared.areas_error.AreasError.{AreasError}
 use Rattle.jb_run.specs.declared.areas_error.AreasError.TheVariants as areas
 use Rattle.jb_run.specs.declared.error.RunError.{RunError}
@@ -134,19 +136,19 @@ module _ (opens : RefusesNothingThatOpens) where
       (all.out.disks ∙ ap (option_map (with_places_out (places_of all.done))) told) all.refuses
 
   -- what is refused of a board, one after the other
-  settings_none : (path : List ℕ) (old new : Desk) (error : RunError) → HasOpenBoard old path → RefusesSettings path old new error → error ≡ run.OutOfMemory
-  settings_none path old new error there refuses =
+  settings_none : (path : List ℕ) (backup : Option (List ℕ)) (old new : Desk) (error : RunError) → HasOpenBoard old path backup → RefusesSettings path old new error → error ≡ run.OutOfMemory
+  settings_none path backup old new error there refuses =
       let same : there.bytes ≡ refuses.bytes = one_some there.bytes refuses.bytes (sym there.stands ∙ refuses.gives.was there.pages there.told) in
       let P : List ℕ → Type 0 = λ b. (e : ConfError) → ReadsSettings b (Err e) → e ≡ conf.OutOfMemory in
       let memory : refuses.why ≡ conf.OutOfMemory = subst P same there.say.only refuses.why refuses.reads in
       refuses.is ∙ ap of_settings memory
 
-  areas_none : (path : List ℕ) (old new : Desk) (error : RunError) → HasOpenBoard old path → RefusesAreas path old new error
+  areas_none : (path : List ℕ) (backup : Option (List ℕ)) (old new : Desk) (error : RunError) → HasOpenBoard old path backup → RefusesAreas path old new error
       → (why : AreasError) × (error ≡ of_areas why) × IsOnlyFault why
-  areas_none path old new error there refuses =
+  areas_none path backup old new error there refuses =
       let same : there.bytes ≡ refuses.has.bytes = one_some there.bytes refuses.has.bytes (sym there.stands ∙ refuses.has.gives.was there.pages there.told) in
-      let P : List ℕ → Type 0 = λ b. SayOpenBoard there.disks b in
-      let say : SayOpenBoard there.disks refuses.has.bytes = subst P same there.say in (
+      let P : List ℕ → Type 0 = λ b. SayOpenBoard there.disks backup b in
+      let say : SayOpenBoard there.disks backup refuses.has.bytes = subst P same there.say in (
         refuses.why,
         refuses.is,
         all_only refuses.board.areas there.disks refuses.mid new refuses.why (refuses.has.gives.disks ∙ there.disks_told)
@@ -169,23 +171,43 @@ module _ (opens : RefusesNothingThatOpens) where
   only_none error why host store is (inr (inr memory)) = is ∙ ap of_areas memory
 
   -- the first refusal, where that of the lines is one of the host
-  begins_none : (Lines : Type 0) (path : List ℕ) (old new : Desk) (error : RunError) → (Lines → (why : HostError) × (error ≡ of_host why))
-      → BeginsNone Lines path old new error → HasNotFailed old new → HasOpenBoard old path → error ≡ run.OutOfMemory
-  begins_none Lines path old new error of_lines none quiet there =
+  begins_none : (Lines : Type 0) (path : List ℕ) (backup : Option (List ℕ)) (old new : Desk) (error : RunError)
+      → (Lines → (error ≡ run.HostFault) ⊎ (error ≡ run.OutOfMemory)) → BeginsNone Lines path old new error → HasNotFailed old new → HasOpenBoard old path backup
+      → error ≡ run.OutOfMemory
+  begins_none Lines path backup old new error of_lines none quiet there =
       let host : error ≡ run.HostFault → ⊥ = λ is. quiet.host (none.cause is) in
       elim none.why [
         | inl settings ↦ not_counted error host (host_none error settings.why settings.is)
         | inr rest ↦ elim rest [
-          | inl settings ↦ settings_none path old new error there settings
+          | inl settings ↦ settings_none path backup old new error there settings
           | inr later ↦ elim later [
-            | inl refuses ↦ let only = areas_none path old new error there refuses in
+            | inl refuses ↦ let only = areas_none path backup old new error there refuses in
                 only_none error only.0 host (λ place is. quiet.back (none.store place is)) only.1 only.2
-            | inr lines ↦ let of = of_lines lines in not_counted error host (host_none error of.0 of.1)
+            | inr lines ↦ not_counted error host (of_lines lines)
           ]
         ]
       ]
 
+  two_bits : (b : Bool) → b ≡ true → b ≡ false → ⊥
+  two_bits true is off = cc
+  two_bits false is off = cc
+
+  none_lacks : (path : List ℕ) (backup : Option (List ℕ)) (old new : Desk) (error : RunError) → HasOpenBoard old path backup → LacksTarget path backup old new error → ⊥
+  none_lacks path backup old new error there lacks =
+      let same : there.bytes ≡ lacks.has.bytes = one_some there.bytes lacks.has.bytes (sym there.stands ∙ lacks.has.gives.was there.pages there.told) in
+      let P : List ℕ → Type 0 = λ b. SayOpenBoard there.disks backup b in
+      let say : SayOpenBoard there.disks backup lacks.has.bytes = subst P same there.say in
+      let all : List BoardArea = lacks.board.areas in
+      let have : HaveTargets lacks.dir all (length all) = subst (λ (b : Option (List ℕ)). HaveAllTargets b all) lacks.folder (say.targeted lacks.board lacks.has.reads) in
+      let area = one_of all lacks.place lacks.first.within in
+      two_bits (has_no_target lacks.dir (take lacks.place all) (slice_index_or all lacks.place area)) (lacks.first.is area) (have lacks.place area lacks.first.within)
+
+  lines_host : (path : List ℕ) (most : Option ℕ) (backup : Option (List ℕ)) (old new : Desk) (error : RunError) → HasOpenBoard old path backup
+      → RefusesLines path most backup old new error → (error ≡ run.HostFault) ⊎ (error ≡ run.OutOfMemory)
+  lines_host path most backup old new error there (inl lacks) = absurd (none_lacks path backup old new error there lacks)
+  lines_host path most backup old new error there (inr calls) = host_none error calls.why calls.is
+
   pub refuses_none : RefusesNoOpenBoard
-  refuses_none path most old new error (inl one) quiet there = begins_none ⊥ path old new error (λ lines. absurd lines) one quiet there
-  refuses_none path most old new error (inr many) quiet there =
-      begins_none (RefusesLines path most old new error) path old new error (λ lines. (lines.why, lines.is)) many quiet there
+  refuses_none path most backup old new error (inl one) quiet there = begins_none ⊥ path backup old new error (λ lines. absurd lines) one quiet there
+  refuses_none path most backup old new error (inr many) quiet there =
+      begins_none (RefusesLines path most backup old new error) path backup old new error (lines_host path most backup old new error there) many quiet there

@@ -1,9 +1,9 @@
 -- The disks at a list of places grow by one as they are handed out, and as they are put back, the last first.
-use Rattle.std.proofs.Common.{◌≡◌, ℕ, suc, ◌+◌, Bool, true, false, ◌&&◌, List, [], ◌∷◌, ◌++◌, All, refl, sym, ap, subst, ◌∙◌, arith}
-use Rattle.std.specs.Prelude.{bytes_eq, if◌then◌else◌, Option, Some, None}
+use Rattle.std.proofs.Common.{◌≡◌, ℕ, zero, suc, ◌+◌, Bool, true, false, ◌&&◌, List, [], ◌∷◌, ◌++◌, All, length, refl, sym, ap, subst, ◌∙◌, arith}
+use Rattle.std.specs.Prelude.{bytes_eq, if◌then◌else◌, slice_index_or, Option, Some, None}
 use Rattle.std.specs.Option.{option_map}
 use Rattle.std.proofs.lemmas.Bool.{and_parts}
-use Rattle.std.proofs.lemmas.List.{append-nil, append_assoc, length_push, map_push}
+use Rattle.std.proofs.lemmas.List.{append-nil, append_assoc, length-append, length_push, map-append, map_push}
 use Rattle.std.proofs.lemmas.List.Elements.{All-head, All-tail}
 use Rattle.std.proofs.lemmas.List.Sums.{sum_by-cons}
 use Rattle.std.proofs.lemmas.Slice.Eq.{bytes_eq-Decides}
@@ -12,7 +12,7 @@ use Rattle.jb_host.proofs.Callers.{keeps_more, keeps_more_back, keeps_none}
 use Rattle.jb_host.specs.Desk.{CountsFailed, Desk, Disks, GivesDisk, HostCall, DiskPlace, TakesBack, and_call, asked_disk, handed_out, has_disk, with_place}
 use Rattle.jb_run.proofs.Counting.{counts_more, counts_none}
 use Rattle.jb_run.proofs.EachLemmas.{each_pair_last}
-use Rattle.jb_run.specs.Desks.{BasePlace, HandsOut, PutsBack, asked_for, disk_faults, with_each, with_places_out}
+use Rattle.jb_run.specs.Desks.{BasePlace, HandsOut, PutsBack, Stand, asked_for, disk_faults, with_each, with_places_out}
 
 -- the one place is not the other
 abbrev pub IsElsewhere : BasePlace → BasePlace → Type 0
@@ -59,7 +59,7 @@ without-push [] place disks = refl
 without-push (first ∷ places) place disks = without-push places place (with_place first.dir first.base handed_out disks)
 
 -- a disk that is there still was there
-was_there : (places : List BasePlace) (dir name : List ℕ) (device : Device) (disks : Disks) → with_places_out places disks dir name ≡ has_disk device → disks dir name ≡ has_disk device
+pub was_there : (places : List BasePlace) (dir name : List ℕ) (device : Device) (disks : Disks) → with_places_out places disks dir name ≡ has_disk device → disks dir name ≡ has_disk device
 was_there [] dir name device disks is = is
 was_there (place ∷ places) dir name device disks is =
     chosen_disk (bytes_eq dir place.dir && bytes_eq name place.base) (disks dir name) device (was_there places dir name device (with_place place.dir place.base handed_out disks) is)
@@ -75,7 +75,7 @@ with_each-first place device (other ∷ places) (there ∷ devices) disks apart 
     ∙ with_each-first place device places devices (with_place other.dir other.base (has_disk there) disks) (All-tail (IsElsewhere place) other places apart)
 
 -- the others leave its place as it was
-with_each-other : (place : BasePlace) (places : List BasePlace) (devices : List Device) (disks : Disks) → All (IsElsewhere place) places
+pub with_each-other : (place : BasePlace) (places : List BasePlace) (devices : List Device) (disks : Disks) → All (IsElsewhere place) places
     → with_each places devices disks place.dir place.base ≡ disks place.dir place.base
 with_each-other place [] devices disks apart = refl
 with_each-other place (other ∷ places) [] disks apart = refl
@@ -150,4 +150,46 @@ puts_back_first place device places devices old mid new apart back takes = recor
   failed = subst (λ (n : ℕ). CountsFailed n old.failed new.failed) (sym (sum_by-cons (λ (d : Device). d.faults) device devices))
       (counts_more (disk_faults devices) device.faults old.failed mid.failed new.failed back.failed takes.failed);
   rest = keeps_more_back old mid new back.rest takes.rest;
+}
+
+-- the disks at these places and then at those were handed out
+pub with_places_out-append : (places more : List BasePlace) (disks : Disks) → with_places_out (places ++ more) disks ≡ with_places_out more (with_places_out places disks)
+with_places_out-append [] more disks = refl
+with_places_out-append (place ∷ places) more disks = with_places_out-append places more (with_place place.dir place.base handed_out disks)
+
+-- they are put back at these and then at those
+pub with_each-append : (places more : List BasePlace) (devices others : List Device) (disks : Disks) → length devices ≡ length places
+    → with_each (places ++ more) (devices ++ others) disks ≡ with_each more others (with_each places devices disks)
+with_each-append [] more [] others disks count = refl
+with_each-append [] more (device ∷ devices) others disks count = absurd (omega (arith, count))
+with_each-append (place ∷ places) more [] others disks count = absurd (omega (arith, count))
+with_each-append (place ∷ places) more (device ∷ devices) others disks count =
+    with_each-append places more devices others (with_place place.dir place.base (has_disk device) disks) (omega (arith, count))
+
+-- what holds of each place and its disk, of these and of those, holds of all
+pub both_stand : (places more : List BasePlace) (devices others : List Device) (disks : Disks) → length devices ≡ length places
+    → Stand places devices disks → Stand more others disks → Stand (places ++ more) (devices ++ others) disks
+both_stand [] more [] others disks count first last k place device within = last k place device within
+both_stand [] more (one ∷ devices) others disks count first last k place device within = absurd (omega (arith, count))
+both_stand (at ∷ places) more [] others disks count first last k place device within = absurd (omega (arith, count))
+both_stand (at ∷ places) more (one ∷ devices) others disks count first last zero place device within = first zero place device (omega arith)
+both_stand (at ∷ places) more (one ∷ devices) others disks count first last (suc k) place device within =
+    both_stand places more devices others disks (omega (arith, count)) (λ j p d low. first (suc j) p d (omega (arith, low))) last k place device (omega (arith, within))
+
+-- the disks at these places were handed out, and then those at others
+pub hands_out_both : (places more : List BasePlace) (devices others : List Device) (old mid new : Desk) → HandsOut places devices old mid → HandsOut more others mid new
+    → HandsOut (places ++ more) (devices ++ others) old new
+hands_out_both places more devices others old mid new first last = record {
+  count = length-append devices others ∙ ap (λ (n : ℕ). n + length others) first.count ∙ ap (λ (n : ℕ). length places + n) last.count ∙ sym (length-append places more);
+  were = λ disks there.
+      let out : mid.disks ≡ Some (with_places_out places disks) = first.disks ∙ told-map (with_places_out places) old.disks disks there in
+      both_stand places more devices others disks first.count (first.were disks there)
+      (λ k place device within. was_there places (slice_index_or more k place).dir (slice_index_or more k place).base (slice_index_or others k device) disks
+      (last.were (with_places_out places disks) out k place device within));
+  disks = last.disks ∙ ap (option_map (with_places_out more)) first.disks
+      ∙ map-map (with_places_out places) (with_places_out more) (with_places_out (places ++ more)) old.disks (with_places_out-append places more);
+  calls = last.calls ∙ ap (option_map (λ (earlier : List HostCall). earlier ++ asked_for more)) first.calls
+      ∙ map-map (λ (earlier : List HostCall). earlier ++ asked_for places) (λ (earlier : List HostCall). earlier ++ asked_for more) (λ (earlier : List HostCall). earlier ++ asked_for (places ++ more))
+      old.calls (λ earlier. ap (λ (l : List HostCall). earlier ++ l) (map-append (λ (a : BasePlace). asked_disk a.dir a.base) places more) ∙ sym (append_assoc earlier (asked_for places) (asked_for more)));
+  rest = keeps_more old mid new first.rest last.rest;
 }

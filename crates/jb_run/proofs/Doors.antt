@@ -42,6 +42,11 @@ calls_then asked more call None is = refl
 calls_then asked more call (Some earlier) is =
     ap (λ (all : List HostCall). Some all) (append_assoc earlier asked (call ∷ []) ∙ ap (λ (all : List HostCall). earlier ++ all) (sym is))
 
+pub calls_behind : (first more : List HostCall) (calls : Option (List HostCall))
+    → option_map (λ earlier. earlier ++ more) (option_map (λ earlier. earlier ++ first) calls) ≡ option_map (λ earlier. earlier ++ (first ++ more)) calls
+calls_behind first more None = refl
+calls_behind first more (Some earlier) = ap (λ (all : List HostCall). Some all) (append_assoc earlier first more)
+
 none_first : (waiting : Option (List Gate)) → waiting ≡ option_map (λ rest. [] ++ rest) waiting
 none_first None = refl
 none_first (Some rest) = refl

@@ -22,6 +22,8 @@ mod Numbers
 mod Own
 mod PagerLemmas
 mod Doors
+mod TargetPlaces
+mod TargetLemmas
 mod Crew
 mod Starts
 mod OverLemmas

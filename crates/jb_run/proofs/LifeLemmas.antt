@@ -135,7 +135,7 @@ module _ {D : Type 0} (shown : D → Device) where
       let at = closes.stands.1 in
       let is : is_doubtful ≡ not (is_settled standing) = doubt_is opened is_doubtful standing at.at doubt rests in
       let stopped : is_doubtful ≡ stopped_last closes.history = is ∙ ap not at.kind ∙ not_not (stopped_last closes.history) in
-      let told : last_faults closes.opening.faults closes.history ≡ after.faults = at.faults ∙ ap (λ (d : Device). d.faults) same in
+      let told : last_faults closes.opening.faults closes.history ≤ after.faults = omega (arith, at.faults, ap (λ (d : Device). d.faults) same) in
       record {
         opening = closes.opening;
         history = closes.history;

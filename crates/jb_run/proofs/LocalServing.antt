@@ -24,6 +24,7 @@ use Rattle.jb_shared.specs.Passes.{PassView}
 use Rattle.jb_shared.specs.declared.shared.SharedArea.{SharedArea}
 use Rattle.jb_run.specs.Local.{ServesOne}
 use Rattle.jb_run.specs.NodePages.{HasPaged}
+use Rattle.jb_run.proofs.DeskLemmas.{hands_out_none, puts_back_none}
 use Rattle.jb_run.proofs.Doors.{no_call}
 use Rattle.jb_run.proofs.Keeping.{keeps_around}
 use Rattle.jb_run.proofs.OverLemmas.{AllKeepStarts, over_areas}
@@ -104,9 +105,10 @@ serves_one path board old read opened served new session is_doubtful shared to p
       from = from;
       to = to;
       afters = closes.afters;
-      over = over_areas path board [] old read opened served new opens.befores opens.openings (from ∷ []) (to ∷ []) is_doubtful has first start (omega arith) refl
+      over = over_areas path board [] old read opened opened served new new opens.befores opens.openings (from ∷ []) (to ∷ []) [] [] [] is_doubtful has first start (omega arith) refl
           (keep_one from to (keeps_starts board console console_after (node_with opened.readings from (Some pager)) (node_with left to (Some pager_after)) session serves))
-          (ap (λ (d : Desk). d.disks) back) (ap (λ (d : Desk). d.calls) back ∙ no_call opened.calls) (omega (arith, ap (λ (d : Desk). d.failed) back)) closes;
+          (hands_out_none opened) (λ k place within. absurd (omega (arith, within))) (ap (λ (d : Desk). d.disks) back)
+          (ap (λ (d : Desk). d.calls) back ∙ no_call opened.calls) (omega (arith, ap (λ (d : Desk). d.failed) back)) closes (puts_back_none new);
       started = opens.whole.passes 0 (omega arith);
       ended = count;
       pager = pager;

@@ -26,6 +26,7 @@ use Rattle.jb_session.specs.declared.end.SessionEnd.{SessionEnd}
 use Rattle.jb_session.specs.declared.end.SessionEnd.TheVariants.{Quit, Hangup, LoginRefused, LinkFault, Spent, OutOfMemory}
 use Rattle.jb_state.proofs.LinkLaws.{true_not_false}
 use Rattle.jb_shared.specs.Passes.{PassView}
+use Rattle.jb_run.specs.Backed.{Targets}
 use Rattle.jb_run.specs.Workers.{Rows}
 use Rattle.jb_run.specs.Working.{AreAllOf, WorkAll}
 
@@ -86,9 +87,9 @@ door_rose true old new tally after none says is ends = ends.0
 door_rose false old new tally after none says is ends = absurd (true_not_false (sym is ∙ ap (λ (t : Tally). t.door_failed) says ∙ none))
 
 -- one of the doors has failed, where one with a door says so
-pub a_door_failed : (readings : Option (List ℕ)) (board : Board) (lines : List Line) (gates gates_after : List Gate) (rings rings_after : Rings) (from to : Rows) (pagers pagers_after : List PagerView) (tallies : List Tally)
-    → WorkAll readings board lines gates gates_after rings rings_after from to pagers pagers_after tallies → any (map (λ tally. tally.door_failed) tallies) ≡ true → 0 < door_faults gates_after
-a_door_failed readings board lines gates gates_after rings rings_after from to pagers pagers_after tallies works failed =
+pub a_door_failed : (readings : Option (List ℕ)) (board : Board) (lines : List Line) (gates gates_after : List Gate) (rings rings_after : Rings) (from to : Rows) (pagers pagers_after : List PagerView) (targets : Targets) (tallies : List Tally)
+    → WorkAll readings board lines gates gates_after rings rings_after from to pagers pagers_after targets tallies → any (map (λ tally. tally.door_failed) tallies) ≡ true → 0 < door_faults gates_after
+a_door_failed readings board lines gates gates_after rings rings_after from to pagers pagers_after targets tallies works failed =
     let absent : Gate = silent_gate 0 false None in
     let bit : Tally → Bool = λ tally. tally.door_failed in
     let one = one_is_set (map bit tallies) failed in

@@ -1,5 +1,5 @@
 -- What a run over the areas of a board comes to: each goes on from its opening to one history of all of its nodes.
-use Rattle.std.proofs.Common.{◌≡◌, ℕ, zero, suc, ◌<◌, ◌≤◌, Bool, true, false, ◌||◌, List, [], ◌∷◌, ◌++◌, length, Option, Some, None, refl, sym, ap, subst, ◌∙◌, append_assoc, arith}
+use Rattle.std.proofs.Common.{◌≡◌, ℕ, zero, suc, ◌<◌, ◌≤◌, Bool, true, false, ◌||◌, List, [], ◌∷◌, ◌++◌, All, length, Option, Some, None, refl, sym, ap, subst, ◌∙◌, append_assoc, arith}
 use Rattle.std.specs.Prelude.{slice_index_or}
 use Rattle.std.specs.List.{fold}
 use Rattle.std.specs.Option.{ForSome, option_map}
@@ -16,12 +16,13 @@ use Rattle.jb_shared.specs.declared.opening.Opening.{Opening}
 use Rattle.jb_turn.specs.Rows.{Has}
 use Rattle.jb_run.specs.All.{ClosesAll, EndsAt, OpenAs, any}
 use Rattle.jb_run.specs.Begins.{HasBoard}
-use Rattle.jb_run.specs.Desks.{BasePlace, HandsOut, Stand, asked_for, disk_faults, place_of, places_of, with_each, with_places_out}
+use Rattle.jb_run.specs.Desks.{BasePlace, HandsOut, PutsBack, Stand, asked_for, disk_faults, place_of, places_of, with_places_out}
 use Rattle.jb_run.specs.Over.{EndAll, EndsFrom, OneFailed, OverAreas}
 use Rattle.jb_run.specs.Workers.{Rows}
 use Rattle.jb_run.proofs.Counting.{one_disk_failed}
 use Rattle.jb_run.proofs.Lists.{one_of}
-use Rattle.jb_run.proofs.Places.{are_out, put_back}
+use Rattle.jb_run.proofs.DeskLemmas.{IsElsewhere}
+use Rattle.jb_run.proofs.TargetPlaces.{put_behind}
 use Rattle.jb_run.proofs.Starts.{KeepStarts}
 use Rattle.jb_run.proofs.WholeLemmas.{nobody}
 
@@ -97,12 +98,15 @@ a_disk_failed areas befores afters many (k, within, rose) =
     let absent : Device = silent_device 0 in
     one_disk_failed afters k (slice_index_or befores k absent).faults absent (omega (arith, within, many)) (rose absent absent)
 
--- from the settings to the end, where what comes between the opening and the closing of the areas leaves the disks out
-pub over_areas : (path : List ℕ) (board : Board) (asked : List HostCall) (old read opened used new : Desk) (befores : List Device) (openings : List Opening) (from to : Rows) (is_doubtful : Bool)
+-- from the settings to the end, where what comes between the opening and the closing of the areas leaves the disks out, and other disks were
+-- handed out behind those of the areas, and are put back behind them
+pub over_areas : (path : List ℕ) (board : Board) (asked : List HostCall) (old read opened targeted used closed new : Desk) (befores : List Device) (openings : List Opening) (from to : Rows)
+    (others : List BasePlace) (firsts left : List Device) (is_doubtful : Bool)
     → HasBoard path board old read → HandsOut (places_of board.areas) befores read opened → OpenAs board.areas befores openings from → 0 < length from → length to ≡ length from → AllKeepStarts from to
-    → used.disks ≡ opened.disks → used.calls ≡ option_map (λ earlier. earlier ++ asked) opened.calls → opened.failed ≤ used.failed
-    → (closes : ClosesAll board.areas to used new is_doubtful) → OverAreas path board asked from to closes.afters is_doubtful old new
-over_areas path board asked old read opened used new befores openings from to is_doubtful has out opens some many keep same_disks calls later closes =
+    → HandsOut others firsts opened targeted → ((k : ℕ) (place : BasePlace) → k < length others → All (IsElsewhere (slice_index_or others k place)) (places_of board.areas))
+    → used.disks ≡ targeted.disks → used.calls ≡ option_map (λ earlier. earlier ++ asked) opened.calls → opened.failed ≤ used.failed
+    → (closes : ClosesAll board.areas to used closed is_doubtful) → PutsBack others left closed new → OverAreas path board asked from to closes.afters others left is_doubtful old new
+over_areas path board asked old read opened targeted used closed new befores openings from to others firsts left is_doubtful has out opens some many keep handed apart same_disks calls later closes puts =
     let gives = has.gives in
     let back = closes.back in
     let places : List BasePlace = places_of board.areas in
@@ -117,7 +121,7 @@ over_areas path board asked old read opened used new befores openings from to is
       was = gives.was;
       reads = has.reads;
       calls =
-          back.calls ∙ calls ∙ ap (option_map (λ (earlier : List HostCall). earlier ++ asked))
+          puts.calls ∙ back.calls ∙ calls ∙ ap (option_map (λ (earlier : List HostCall). earlier ++ asked))
           (out.calls ∙ ap (option_map (λ (earlier : List HostCall). earlier ++ asked_for places)) gives.calls)
           ∙ calls_together (asked_settings path) (asked_for places) asked old.calls;
       befores = befores;
@@ -125,15 +129,16 @@ over_areas path board asked old read opened used new befores openings from to is
       openings = openings;
       opens = opens;
       disks = λ disks told.
-          let gone : used.disks ≡ Some (with_places_out places disks) = same_disks ∙ out.disks ∙ ap (option_map (with_places_out places)) (gives.disks ∙ told) in
-          back.disks (with_places_out places disks) gone (are_out places disks) ∙ ap (option_map (with_each places closes.afters)) gone
-          ∙ ap (λ (d : Disks). Some d) (put_back places closes.afters disks back.count);
+          let first : Disks = with_places_out places disks in
+          let gone : used.disks ≡ Some (with_places_out others first)
+          = same_disks ∙ handed.disks ∙ ap (option_map (with_places_out others)) (out.disks ∙ ap (option_map (with_places_out places)) (gives.disks ∙ told)) in
+          put_behind places others closes.afters left used.disks closed.disks new.disks disks gone back.disks puts.disks back.count puts.count apart;
       doubts = closes.doubts;
       ends = ends;
       count = record { were = out.count ∙ many_places; are = back.count ∙ many_places; told = closes.count };
       doubt = closes.doubt;
       cause = cause;
       failing = λ doubtful.
-          omega (arith, back.failed.rose (a_disk_failed board.areas befores closes.afters (back.count ∙ many_places) (cause doubtful)), later, out.rest.failed, gives.rest.failed);
-      no_fewer = omega (arith, back.failed.later, later, out.rest.failed, gives.rest.failed);
+          omega (arith, back.failed.rose (a_disk_failed board.areas befores closes.afters (back.count ∙ many_places) (cause doubtful)), puts.failed.later, later, out.rest.failed, gives.rest.failed);
+      no_fewer = omega (arith, puts.failed.later, back.failed.later, later, out.rest.failed, gives.rest.failed);
     }

@@ -48,15 +48,15 @@ same_reversed : {A : Type 0} (o : Option A) → reverse (option_to_list o) ≡ o
 same_reversed None = refl
 same_reversed (Some x) = refl
 
-module _ {R B C : Type 0} where
-  pub pagers_push : (workers : List (Worker R B C)) (one : Worker R B C) → pagers_of (workers ++ one ∷ []) ≡ pagers_of workers ++ option_to_list (worker_pager one)
+module _ {R B C E : Type 0} where
+  pub pagers_push : (workers : List (Worker R B C E)) (one : Worker R B C E) → pagers_of (workers ++ one ∷ []) ≡ pagers_of workers ++ option_to_list (worker_pager one)
   pagers_push [] one = append-nil (option_to_list (worker_pager one))
   pagers_push (worker ∷ workers) one =
       ap (λ (l : List PagerView). option_to_list (worker_pager worker) ++ l) (pagers_push workers one)
       ∙ sym (append_assoc (option_to_list (worker_pager worker)) (pagers_of workers) (option_to_list (worker_pager one)))
 
   -- the last gives its pager back
-  pub pager_given : (workers : List (Worker R B C)) (one : Worker R B C) (pagers : List PagerView)
+  pub pager_given : (workers : List (Worker R B C E)) (one : Worker R B C E) (pagers : List PagerView)
       → with_pagers workers (pagers ++ option_to_list (worker_pager one)) ≡ with_pagers (workers ++ one ∷ []) pagers
   pager_given workers one pagers =
       let mine : List PagerView = option_to_list (worker_pager one) in
@@ -66,12 +66,12 @@ module _ {R B C : Type 0} where
       ∙ sym (reverse-append (pagers_of workers) mine) ∙ ap (λ (l : List PagerView). reverse l) (sym (pagers_push workers one)))
 
   -- all pagers are those of these workers, where none waits
-  pub pagers_all : (workers : List (Worker R B C)) (waiting all : List PagerView) → waiting ≡ [] → with_pagers workers waiting ≡ all → reverse all ≡ pagers_of workers
+  pub pagers_all : (workers : List (Worker R B C E)) (waiting all : List PagerView) → waiting ≡ [] → with_pagers workers waiting ≡ all → reverse all ≡ pagers_of workers
   pagers_all workers waiting all none same =
       ap (λ (l : List PagerView). reverse l) (sym same ∙ ap (λ (l : List PagerView). with_pagers workers l) none) ∙ reverse-reverse (pagers_of workers)
 
   -- where all have room so has its own
-  pub pager_fits : (workers : List (Worker R B C)) (one : Worker R B C) (pagers : List PagerView)
+  pub pager_fits : (workers : List (Worker R B C E)) (one : Worker R B C E) (pagers : List PagerView)
       → length pagers + length (option_to_list (worker_pager one)) ≤ length (with_pagers (workers ++ one ∷ []) pagers)
   pager_fits workers one pagers =
       let mine : List PagerView = option_to_list (worker_pager one) in
@@ -83,11 +83,11 @@ module _ {R B C : Type 0} where
       )
 
   -- the last of the new pagers that wait is that of the next node
-  pub record IsNext (workers : List (Worker R B C)) (waiting rest : List PagerView) (taken : Option PagerView) : Type 0 where
+  pub record IsNext (workers : List (Worker R B C E)) (waiting rest : List PagerView) (taken : Option PagerView) : Type 0 where
     pub number : pager_number taken ≡ Some (length workers + 1)
     pub fewer : length rest + 1 ≡ length waiting
 
-  pub next_pager : (nodes : ℕ) (workers : List (Worker R B C)) (waiting rest : List PagerView) (taken : Option PagerView) (all : List PagerView) → AreNewPagers nodes (reverse all)
+  pub next_pager : (nodes : ℕ) (workers : List (Worker R B C E)) (waiting rest : List PagerView) (taken : Option PagerView) (all : List PagerView) → AreNewPagers nodes (reverse all)
       → with_pagers workers waiting ≡ all → waiting ≡ rest ++ option_to_list taken → length waiting + length workers ≡ nodes → 0 < length waiting → IsSome taken
       → IsNext workers waiting rest taken
   next_pager nodes workers waiting rest None all new same is count low has = absurd (let no : ⊥ = cc in no)
@@ -109,29 +109,29 @@ module _ {R B C : Type 0} where
       }
 
   -- the first so many have pagers, and the others none
-  abbrev ArePaged : ℕ → List (Worker R B C) → Type 0
-  ArePaged n workers = (k : ℕ) (absent : Worker R B C) → k < length workers
+  abbrev ArePaged : ℕ → List (Worker R B C E) → Type 0
+  ArePaged n workers = (k : ℕ) (absent : Worker R B C E) → k < length workers
       → (k < n → (pager : PagerView) × (worker_pager (get_or workers k absent) ≡ Some pager)) × (n ≤ k → worker_pager (get_or workers k absent) ≡ None)
 
-  rest_paged : (n : ℕ) (worker : Worker R B C) (workers : List (Worker R B C)) → ArePaged (suc n) (worker ∷ workers) → ArePaged n workers
+  rest_paged : (n : ℕ) (worker : Worker R B C E) (workers : List (Worker R B C E)) → ArePaged (suc n) (worker ∷ workers) → ArePaged n workers
   rest_paged n worker workers paged k absent within =
       let both = paged (suc k) absent (omega (arith, within)) in
       (λ low. both.0 (omega (arith, low)), λ high. both.1 (omega (arith, high)))
 
-  no_pagers : (workers : List (Worker R B C)) → ArePaged 0 workers → pagers_of workers ≡ []
+  no_pagers : (workers : List (Worker R B C E)) → ArePaged 0 workers → pagers_of workers ≡ []
   no_pagers [] paged = refl
   no_pagers (worker ∷ workers) paged =
       ap (λ (o : Option PagerView). option_to_list o ++ pagers_of workers) ((paged 0 worker (omega arith)).1 (omega arith))
       ∙ no_pagers workers (λ k absent within. (λ low. absurd (omega (arith, low)), λ high. (paged (suc k) absent (omega (arith, within))).1 (omega arith)))
 
-  many_pagers : (n : ℕ) (workers : List (Worker R B C)) → ArePaged n workers → n ≤ length workers → length (pagers_of workers) ≡ n
+  many_pagers : (n : ℕ) (workers : List (Worker R B C E)) → ArePaged n workers → n ≤ length workers → length (pagers_of workers) ≡ n
   many_pagers zero workers paged few = ap length (no_pagers workers paged)
   many_pagers (suc n) [] paged few = absurd (omega (arith, few))
   many_pagers (suc n) (worker ∷ workers) paged few =
       ap (λ (o : Option PagerView). length (option_to_list o ++ pagers_of workers)) ((paged 0 worker (omega arith)).0 (omega arith)).1
       ∙ omega (arith, many_pagers n workers (rest_paged n worker workers paged) (omega (arith, few)))
 
-  pager_found : (n : ℕ) (workers : List (Worker R B C)) (k : ℕ) (absent : Worker R B C) → ArePaged n workers → k < length workers
+  pager_found : (n : ℕ) (workers : List (Worker R B C E)) (k : ℕ) (absent : Worker R B C E) → ArePaged n workers → k < length workers
       → slice_get (pagers_of workers) k ≡ worker_pager (get_or workers k absent)
   pager_found zero workers k absent paged within = ap (λ (l : List PagerView). slice_get l k) (no_pagers workers paged) ∙ sym ((paged k absent within).1 (omega arith))
   pager_found (suc n) [] k absent paged within = absurd (omega (arith, within))
@@ -165,20 +165,20 @@ has_none : (pager : Option PagerView) → pager_number pager ≡ None → pager 
 has_none None is = refl
 has_none (Some one) is = absurd (none-some one.number (sym is))
 
-module _ {R B C : Type 0} where
-  of_pager : (line : Line) (worker : Worker R B C) → HasLine line worker → pager_number (worker_pager worker) ≡ line_pager line
+module _ {R B C E : Type 0} where
+  of_pager : (line : Line) (worker : Worker R B C E) → HasLine line worker → pager_number (worker_pager worker) ≡ line_pager line
   of_pager line (Node slot) is = is.2 ∙ sym (ap (λ (s : Service). pager_for s line.node) is.0)
   of_pager line (Packer slot) is = absurd is
   of_pager line (News slot) is = is.2 ∙ sym (ap (λ (s : Service). pager_for s line.node) is.0)
 
-  module _ (board : Board) (most : Option ℕ) (workers : List (Worker R B C)) (each : AllZip HasLine (lines_for board most) workers) where
-    at_line : (k : ℕ) (absent : Worker R B C) (none : Line) → k < length workers → pager_number (worker_pager (get_or workers k absent)) ≡ line_pager (get_or (lines_for board most) k none)
+  module _ (board : Board) (most : Option ℕ) (workers : List (Worker R B C E)) (each : AllZip HasLine (lines_for board most) workers) where
+    at_line : (k : ℕ) (absent : Worker R B C E) (none : Line) → k < length workers → pager_number (worker_pager (get_or workers k absent)) ≡ line_pager (get_or (lines_for board most) k none)
     at_line k absent none within =
         of_pager (get_or (lines_for board most) k none) (get_or workers k absent)
         (zip_at HasLine (lines_for board most) workers k none absent each (omega (arith, within, zip_long HasLine (lines_for board most) workers each)))
 
     -- who serves the node at a place has the pager of its number
-    node_pager : (k : ℕ) (absent : Worker R B C) → k < board.nodes → k < length workers → pager_number (worker_pager (get_or workers k absent)) ≡ Some (k + 1)
+    node_pager : (k : ℕ) (absent : Worker R B C E) → k < board.nodes → k < length workers → pager_number (worker_pager (get_or workers k absent)) ≡ Some (k + 1)
     node_pager k absent low within =
         let f = line_for board most in
         at_line k absent (f 0) within
@@ -187,7 +187,7 @@ module _ {R B C : Type 0} where
         ∙ get_or-map-range_with_len f 1 board.nodes k (k + 1) (f 0) low (omega arith))
 
     -- and who serves news none
-    news_pager : (k : ℕ) (absent : Worker R B C) → board.nodes ≤ k → k < length workers → pager_number (worker_pager (get_or workers k absent)) ≡ None
+    news_pager : (k : ℕ) (absent : Worker R B C E) → board.nodes ≤ k → k < length workers → pager_number (worker_pager (get_or workers k absent)) ≡ None
     news_pager k absent high within =
         let f = line_for board most in
         let n : ℕ = board.nodes in
@@ -215,7 +215,7 @@ module _ {R B C : Type 0} where
     count_pagers = many_pagers board.nodes workers are_paged few_nodes
 
     -- the pager of a line is that of who serves it
-    pub pager_is : (k : ℕ) (none : Line) (absent : Worker R B C) → k < length workers → pager_of (pagers_of workers) (get_or (lines_for board most) k none) ≡ worker_pager (get_or workers k absent)
+    pub pager_is : (k : ℕ) (none : Line) (absent : Worker R B C E) → k < length workers → pager_of (pagers_of workers) (get_or (lines_for board most) k none) ≡ worker_pager (get_or workers k absent)
     pager_is k none absent within =
         let lines : List Line = lines_for board most in
         let pagers : List PagerView = pagers_of workers in
@@ -226,18 +226,18 @@ module _ {R B C : Type 0} where
         ]
 
     -- that at a place is that of a worker
-    pager_at : (k : ℕ) (absent : Worker R B C) (none : PagerView) → k < board.nodes → worker_pager (get_or workers k absent) ≡ Some (get_or (pagers_of workers) k none)
+    pager_at : (k : ℕ) (absent : Worker R B C E) (none : PagerView) → k < board.nodes → worker_pager (get_or workers k absent) ≡ Some (get_or (pagers_of workers) k none)
     pager_at k absent none low =
         sym (pager_found board.nodes workers k absent are_paged (omega (arith, low, few_nodes))) ∙ slice_get-get_or (pagers_of workers) k none (omega (arith, low, count_pagers))
 
     -- what holds of all holds of each, and what holds of each of all
-    pub each_pager : (P : PagerView → Type 0) → All P (pagers_of workers) → (k : ℕ) (absent : Worker R B C) (one : PagerView) → k < length workers
+    pub each_pager : (P : PagerView → Type 0) → All P (pagers_of workers) → (k : ℕ) (absent : Worker R B C E) (one : PagerView) → k < length workers
         → worker_pager (get_or workers k absent) ≡ Some one → P one
     each_pager P all k absent one within is =
         let within_pagers : k < board.nodes = below k absent one within is in
         subst P (same_Some _ _ (sym (pager_at k absent one within_pagers) ∙ is)) (all k one (omega (arith, within_pagers, count_pagers)))
       where
-        below : (k : ℕ) (absent : Worker R B C) (one : PagerView) → k < length workers → worker_pager (get_or workers k absent) ≡ Some one → k < board.nodes
+        below : (k : ℕ) (absent : Worker R B C E) (one : PagerView) → k < length workers → worker_pager (get_or workers k absent) ≡ Some one → k < board.nodes
         below k absent one within is = elim (line_number board most k (line_for board most 0) (omega (arith, within, zip_long HasLine (lines_for board most) workers each))) [
           | inl node ↦ node.0
           | inr news ↦ absurd (none-some one (sym ((are_paged k absent within).1 (omega (arith, news.0))) ∙ is))
@@ -245,7 +245,7 @@ module _ {R B C : Type 0} where
 
     -- where each is one of these pages, they are a pager of them for each node
     pub are_pagers : (pages : PagesView) → pages.nodes ≡ board.nodes
-        → ((k : ℕ) (absent : Worker R B C) (one : PagerView) → k < length workers → worker_pager (get_or workers k absent) ≡ Some one → IsPagerOf pages one) → ArePagersOf pages (pagers_of workers)
+        → ((k : ℕ) (absent : Worker R B C E) (one : PagerView) → k < length workers → worker_pager (get_or workers k absent) ≡ Some one → IsPagerOf pages one) → ArePagersOf pages (pagers_of workers)
     are_pagers pages between of = record {
       count = count_pagers ∙ sym between;
       of = λ k none low.

@@ -80,7 +80,8 @@ is_among (first ∷ places) zero place within = first_of_them _ _ (own first)
 is_among (first ∷ places) (suc k) place within =
     second_of_them (is_for (slice_index_or places k place).dir (slice_index_or places k place).base first) _ (is_among places k place (omega (arith, within)))
 
-stays_out : (places : List BasePlace) (disks : Disks) (dir name : List ℕ) → disks dir name ≡ handed_out → with_places_out places disks dir name ≡ handed_out
+-- a disk that is out stays out
+pub stays_out : (places : List BasePlace) (disks : Disks) (dir name : List ℕ) → disks dir name ≡ handed_out → with_places_out places disks dir name ≡ handed_out
 stays_out [] disks dir name out = out
 stays_out (place ∷ places) disks dir name out =
     stays_out places (with_place place.dir place.base handed_out disks) dir name

@@ -122,7 +122,7 @@ where_is true asked so = (refl, refl)
 where_is false asked so = absurd (true≢false (sym so))
 
 pub many_reach : PagesAreOfSessions → EachReachesOfMany
-many_reach law readings board most gates gates_after rings rings_after from to pagers pagers_after tallies works paged =
+many_reach law readings board most gates gates_after rings rings_after from to pagers pagers_after targets tallies works paged =
     reaches board.nodes pagers pagers_after paged (asked_of works) on_line
   where
     lines : List Line

@@ -5,9 +5,11 @@ pub mod AreasErrors
 pub mod All
 pub mod LocalEnding
 pub mod Lines
+pub mod Targets
 pub mod NodePages
 pub mod Begins
 pub mod NodesEnding
+pub mod Backed
 pub mod Workers
 pub mod Working
 pub mod Over

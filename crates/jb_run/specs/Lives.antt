@@ -78,12 +78,12 @@ HoldsAt (Settled state) device = IsAllSynced device
 HoldsAt (InDoubt before after) device = ForSome device.contents (λ files. (loaded : Loaded) × (texts : List ℕ) × (coming : Option Coming)
     × DoubtOpens loaded texts coming files × StandsWithin (doubt_between texts loaded coming) (InDoubt before after))
 
--- the disk is left as the history says: it has failed as often as the history tells, and the area is in doubt just where the
+-- the disk is left as the history says: it has failed no less often than the history tells, since backups read it too, and the area is in doubt just where the
 -- device stopped the last call, which then has raised its count of faults. At each moment since the area was shared a crash left what opens
 -- to the area after a beginning of the history: up to some moment no more than each beginning, and from then on no less
 pub record LeavesArea (opening : Opening) (entries : List Entry) (is_doubtful : Bool) (after : Device) : Type 0 where
   pub history : IsHistory opening entries
-  pub faults : last_faults opening.faults entries ≡ after.faults
+  pub faults : last_faults opening.faults entries ≤ after.faults
   pub told : is_some after.contents ≡ is_some opening.texts
   pub standing : Standing
   pub leads : Tells opening → standing ≡ leads_to opening entries

@@ -21,7 +21,7 @@ pub record ServesOne (path : List ℕ) (old new : Desk) (end : LocalEnd) : Type 
   pub from : List PassView
   pub to : List PassView
   pub afters : List Device
-  pub over : OverAreas path board [] (from ∷ []) (to ∷ []) afters end.is_doubtful old new
+  pub over : OverAreas path board [] (from ∷ []) (to ∷ []) afters [] [] end.is_doubtful old new
   -- there are as many passes as areas, before and after
   pub started : length from ≡ length board.areas
   pub ended : length to ≡ length board.areas

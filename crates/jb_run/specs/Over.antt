@@ -10,7 +10,7 @@ use Rattle.jb_host.specs.Desk.{Desk, HostCall, asked_settings}
 use Rattle.jb_shared.specs.Passes.{PassView}
 use Rattle.jb_shared.specs.declared.opening.Opening.{Opening}
 use Rattle.jb_run.specs.All.{OpenAs, any}
-use Rattle.jb_run.specs.Desks.{Stand, asked_for, places_of, with_each}
+use Rattle.jb_run.specs.Desks.{BasePlace, Stand, asked_for, places_of, with_each}
 use Rattle.jb_run.specs.Lives.{Ends}
 use Rattle.jb_run.specs.Rows.{IsColumn}
 use Rattle.jb_run.specs.Workers.{Rows}
@@ -40,8 +40,8 @@ EndAll openings rows doubts afters = (k : ℕ) (opening : Opening) (doubt : Bool
     → EndsFrom rows k (slice_index_or openings k opening) (slice_index_or doubts k doubt) (slice_index_or afters k after)
 
 -- a run over the areas of the board that the settings say: it asks for this behind them, and the passes are these, as it begins and as
--- it ends, and so the disks that come back
-pub record OverAreas (path : List ℕ) (board : Board) (asked : List HostCall) (from to : Rows) (afters : List Device) (is_doubtful : Bool) (old new : Desk) : Type 0 where
+-- it ends, and so the disks that come back; those at these other places come back so
+pub record OverAreas (path : List ℕ) (board : Board) (asked : List HostCall) (from to : Rows) (afters : List Device) (others : List BasePlace) (left : List Device) (is_doubtful : Bool) (old new : Desk) : Type 0 where
   -- the settings are read first
   pub bytes : List ℕ
   pub was : ForSome old.settings (λ pages. pages path ≡ Some bytes)
@@ -52,8 +52,8 @@ pub record OverAreas (path : List ℕ) (board : Board) (asked : List HostCall) (
   pub were : ForSome old.disks (Stand (places_of board.areas) befores)
   pub openings : List Opening
   pub opens : OpenAs board.areas befores openings from
-  -- each is closed with all that its nodes know, from its opening on, and its disk put back
-  pub disks : ForSome old.disks (λ disks. new.disks ≡ Some (with_each (places_of board.areas) afters disks))
+  -- each is closed with all that its nodes know, from its opening on, and its disk put back; no other disk has changed but those at these places
+  pub disks : ForSome old.disks (λ disks. new.disks ≡ Some (with_each others left (with_each (places_of board.areas) afters disks)))
   pub doubts : List Bool
   pub ends : EndAll openings to doubts afters
   pub count : AreAsMany board.areas befores afters doubts

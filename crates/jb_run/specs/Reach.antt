@@ -20,6 +20,7 @@ use Rattle.jb_session.specs.Exchanges.{Exchange}
 use Rattle.jb_session.specs.Pages.{pages_from, sendings_of, takings_of}
 use Rattle.jb_run.specs.Lines.{Line, lines_for}
 use Rattle.jb_run.specs.Local.{ServesOne}
+use Rattle.jb_run.specs.Backed.{Targets}
 use Rattle.jb_run.specs.NodePages.{HasPaged}
 use Rattle.jb_run.specs.Workers.{Rows}
 use Rattle.jb_run.specs.Working.{WorkAll}
@@ -60,7 +61,7 @@ where_true true asked = asked refl
 where_true false asked = []
 
 module _ {readings : Option (List ℕ)} {board : Board} {lines : List Line} {gates gates_after : List Gate} {rings rings_after : Rings} {from to : Rows}
-    {pagers pagers_after : List PagerView} {tallies : List Tally} (works : WorkAll readings board lines gates gates_after rings rings_after from to pagers pagers_after tallies) where
+    {pagers pagers_after : List PagerView} {targets : Targets} {tallies : List Tally} (works : WorkAll readings board lines gates gates_after rings rings_after from to pagers pagers_after targets tallies) where
   -- what was asked and answered in the sessions on the line at this place, one after another
   abbrev pub asked_at : (k : ℕ) → k < length lines → List Exchange
   asked_at k within =
@@ -79,8 +80,8 @@ asked_alone exchanges node = []
 -- so it is in each run with many nodes
 abbrev pub EachReachesOfMany : Type 0
 EachReachesOfMany = (readings : Option (List ℕ)) (board : Board) (most : Option ℕ) (gates gates_after : List Gate) (rings rings_after : Rings) (from to : Rows)
-    (pagers pagers_after : List PagerView) (tallies : List Tally)
-    → (works : WorkAll readings board (lines_for board most) gates gates_after rings rings_after from to pagers pagers_after tallies) → (paged : HasPaged board.nodes pagers pagers_after)
+    (pagers pagers_after : List PagerView) (targets : Targets) (tallies : List Tally)
+    → (works : WorkAll readings board (lines_for board most) gates gates_after rings rings_after from to pagers pagers_after targets tallies) → (paged : HasPaged board.nodes pagers pagers_after)
     → PagesReach board.nodes (asked_of works) paged.unread
 
 -- and in each with one session

@@ -1,5 +1,6 @@
 //! A run of the board, from the settings to all disks put back: at the console with one session ([`local`]), or at ports with many
-//! nodes, a packer, and a server of news where the settings have a port for it ([`serve_nodes`]).
+//! nodes, a packer, and a server of news where the settings have a port for it ([`serve_nodes`]), and each area backed up once where there
+//! is a folder for that.
 //!
 //! The layer above may rely on this: either nobody is served, the first refusal is told ([`RunError`]) and all that was handed out is
 //! back; or the settings are read, each area is opened over the disk that the host has for it and shared among the workers, in order,
@@ -26,6 +27,7 @@ mod opening;
 mod parting;
 mod settings;
 mod sharing;
+mod targets;
 mod telling;
 
 pub use console::local;

@@ -1,7 +1,7 @@
 //! The workers of a run: room for them, and each line as the host hands its door out.
 ghost use Rattle.std.specs.Prelude.{◌≡◌, ◌+◌, ◌-◌, ◌<◌, ◌≤◌, ℕ, Option, None, [], IfErr, IfOk, OnOk, length, reverse, set, slice_index_or, vec_capacity};
 ghost use Rattle.jb_run.specs.Rows.{lists_of};
-ghost use Rattle.jb_limits.specs.declared.limits.TheConstants.{MOST_AREAS, MOST_NODES};
+ghost use Rattle.jb_limits.specs.declared.limits.TheConstants.{MOST_NODES};
 ghost use Rattle.jb_host.specs.Desk.{Desk, RefusesCall, asked_door};
 ghost use Rattle.jb_page.specs.Pagers.{AreNewPagers};
 ghost use Rattle.jb_run.specs.Lines.{first_lines, lines_for};
@@ -9,6 +9,7 @@ ghost use Rattle.jb_run.specs.NodePages.{ArePagersOf};
 ghost use Rattle.jb_run.specs.Workers.{HasWorkers, OpensLine, OpensLines, StopsAt, packer, pagers_of, with_pagers, with_passes};
 
 use crate::node_pages::{NodePages, node_pages_for};
+use crate::targets::{TargetDisks, target_room};
 use jb_base::{Name, OutOfMemory, User};
 use jb_conf::Board;
 use jb_host::{Host, HostError};
@@ -23,12 +24,14 @@ const PACKER: &[u8] = b"Packer";
 /// The level of that user.
 const PACKER_LEVEL: u8 = 255;
 
-/// What has to be there before the areas are opened: room for the workers, the user as whom areas are packed, and the pages.
+/// What has to be there before the areas are opened: room for the workers, the user as whom areas are packed, the pages, and room for
+/// the targets of backups.
 #[derive(Drop)]
-pub(crate) struct Room<R, B, C> {
-    pub workers: Vec<Worker<R, B, C>>,
+pub(crate) struct Room<R, B, C, E> {
+    pub workers: Vec<Worker<R, B, C, E>>,
     pub packer: User,
     pub node_pages: NodePages,
+    pub targets: TargetDisks<E>,
 }
 
 /// How many workers a board has, each with a pass of each area: its nodes, the packer, and where it has a port for news one more.
@@ -42,12 +45,13 @@ pub(crate) fn workers_of(board: &Board) -> u32
     }
 }
 
-/// Room for so many workers, and for the pages between so many nodes.
-pub(crate) fn room_for<R: Drop, B: Drop, C: Drop>(
+/// Room for so many workers, for the pages between so many nodes, and for so many targets.
+pub(crate) fn room_for<R: Drop, B: Drop, C: Drop, E: Drop>(
     alloc: Global,
     workers: u32,
     nodes: u32,
-) -> Result<Room<R, B, C>, OutOfMemory>
+    targets: usize,
+) -> Result<Room<R, B, C, E>, OutOfMemory>
     requires workers { workers ≤ MOST_NODES + 1 }
     requires nodes { (0 < nodes) × (nodes ≤ MOST_NODES) }
     ensures none { IfOk result (λ room. room.workers.items ≡ []) }
@@ -55,6 +59,9 @@ pub(crate) fn room_for<R: Drop, B: Drop, C: Drop>(
     ensures packer { IfOk result (λ room. room.packer ≡ packer) }
     ensures pagers { IfOk result (λ room. AreNewPagers nodes (reverse room.node_pages.pagers.items)) }
     ensures of { IfOk result (λ room. ArePagersOf room.node_pages.pages (reverse room.node_pages.pagers.items)) }
+    ensures untargeted { IfOk result (λ room. (room.targets.disks.items ≡ []) × (room.targets.backups.items ≡ [])) }
+    ensures target_room { IfOk result (λ room.
+        (targets ≤ vec_capacity room.targets.disks) × (targets ≤ vec_capacity room.targets.backups)) }
 {
     let workers = Vec::with_capacity(alloc, workers as usize)?;
     let name = Name::copy(alloc, PACKER)?;
@@ -64,10 +71,12 @@ pub(crate) fn room_for<R: Drop, B: Drop, C: Drop>(
         level: PACKER_LEVEL,
     };
     let node_pages = node_pages_for(alloc, nodes)?;
+    let targets = target_room(alloc, targets)?;
     Ok(Room {
         workers,
         packer,
         node_pages,
+        targets,
     })
 }
 
@@ -121,7 +130,7 @@ fn open_nodes<H: Host>(
     calls: Option<u32>,
     nodes: &mut Vec<Vec<Pass>>,
     pagers: &mut Vec<Pager>,
-    workers: &mut Vec<Worker<H::Door, H::Bell, H::Clock>>,
+    workers: &mut Vec<Worker<H::Door, H::Bell, H::Clock, H::Disk>>,
 ) -> Result<(), HostError>
     requires none { workers.old.items ≡ [] }
     requires lists { length (lines_for board.now calls) < length nodes.old.items }
@@ -156,7 +165,7 @@ fn open_news<H: Host>(
     board: &Board,
     calls: Option<u32>,
     nodes: &mut Vec<Vec<Pass>>,
-    workers: &mut Vec<Worker<H::Door, H::Bell, H::Clock>>,
+    workers: &mut Vec<Worker<H::Door, H::Bell, H::Clock, H::Disk>>,
 ) -> Result<(), HostError>
     requires count { length workers.old.items ≡ board.now.nodes }
     requires lists { length (lines_for board.now calls) < length nodes.old.items }
@@ -191,7 +200,7 @@ pub(crate) fn open_lines<H: Host>(
     calls: Option<u32>,
     nodes: &mut Vec<Vec<Pass>>,
     pagers: &mut Vec<Pager>,
-    workers: &mut Vec<Worker<H::Door, H::Bell, H::Clock>>,
+    workers: &mut Vec<Worker<H::Door, H::Bell, H::Clock, H::Disk>>,
 ) -> Result<H::Bell, HostError>
     requires none { workers.old.items ≡ [] }
     requires lists { length (lines_for board.now calls) < length nodes.old.items }

@@ -13,7 +13,7 @@ use jb_server::{NodeSlot, PackSlot, Worker};
 use jb_shared::Pass;
 
 /// What one with a door works with.
-fn slot_of<R: Drop, B: Drop, C: Drop>(worker: Worker<R, B, C>) -> NodeSlot<R, C>
+fn slot_of<R: Drop, B: Drop, C: Drop, E: Drop>(worker: Worker<R, B, C, E>) -> NodeSlot<R, C>
     requires { HasDoor worker }
     ensures { (worker ≡ is_node result) ⊎ (worker ≡ is_news result) }
 {
@@ -29,7 +29,7 @@ fn part_last<H: Host>(
     host: &mut H,
     nodes: &mut Vec<Vec<Pass>>,
     pagers: &mut Vec<Pager>,
-    workers: &mut Vec<Worker<H::Door, H::Bell, H::Clock>>,
+    workers: &mut Vec<Worker<H::Door, H::Bell, H::Clock, H::Disk>>,
 ) -> Option<bool>
     requires doors { All HasDoor workers.old.items }
     requires own { HaveOwn (length nodes.old.items) workers.old.items }
@@ -67,7 +67,7 @@ pub(crate) fn part_lines<H: Host>(
     host: &mut H,
     nodes: &mut Vec<Vec<Pass>>,
     pagers: &mut Vec<Pager>,
-    mut workers: Vec<Worker<H::Door, H::Bell, H::Clock>>,
+    mut workers: Vec<Worker<H::Door, H::Bell, H::Clock, H::Disk>>,
 ) -> bool
     requires doors { All HasDoor workers.items }
     requires own { HaveOwn (length nodes.old.items) workers.items }
@@ -85,16 +85,16 @@ pub(crate) fn part_lines<H: Host>(
     has_failed
 }
 
-/// Takes the packer apart, which is the last of the workers.
+/// Takes the packer apart, which is the last of the workers. Its targets are left.
 pub(crate) fn part_packer<H: Host>(
     host: &mut H,
     nodes: &mut Vec<Vec<Pass>>,
-    workers: &mut Vec<Worker<H::Door, H::Bell, H::Clock>>,
-)
+    workers: &mut Vec<Worker<H::Door, H::Bell, H::Clock, H::Disk>>,
+) -> Vec<Option<H::Disk>>
     requires last { EndsWithPacker workers.old.items }
     requires own { HaveOwn (length nodes.old.items) workers.old.items }
-    ensures bell { PartsPacker H.Bell.rings workers.old.items workers.new.items (H.desk host.old)
-        (H.desk host.new) }
+    ensures bell { PartsPacker H.Bell.rings workers.old.items workers.new.items result.items
+        (H.desk host.old) (H.desk host.new) }
     ensures rows { with_passes workers.new.items (lists_of nodes.new.items)
         ≡ with_passes workers.old.items (lists_of nodes.old.items) }
     ensures lists { length nodes.new.items ≡ length nodes.old.items }
@@ -106,8 +106,10 @@ pub(crate) fn part_packer<H: Host>(
         node,
         bell,
         passes,
+        targets,
         ..
     } = slot;
     host.put_bell(bell);
     nodes[node as usize - 1] = passes;
+    targets
 }

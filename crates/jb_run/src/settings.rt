@@ -56,6 +56,27 @@ pub(crate) fn tell_unknown<H: Host>(alloc: Global, host: &mut H, path: &str, nam
     }
 }
 
+fn no_target(alloc: Global, place: u32) -> Result<String, OutOfMemory> {
+    let line = format!(in alloc;
+        "area.{place}.base is the same as one before it, or its folder is that of the backups"
+    )?;
+    Ok(line)
+}
+
+/// Tells that the area at this place of the file at this path, counted from 1, has no target in the folder for backups.
+pub(crate) fn tell_untargeted<H: Host>(alloc: Global, host: &mut H, path: &str, place: u32)
+    ensures { H.desk host.new ≡ H.desk host.old }
+{
+    let found = no_target(alloc, place);
+    tell(
+        alloc,
+        host,
+        path,
+        found,
+        "an area has no target in the folder for backups",
+    );
+}
+
 /// Tells why the file at this path, with these bytes, is refused. Want of memory is told with the end of the run.
 pub(crate) fn tell_refusal<H: Host>(
     alloc: Global,

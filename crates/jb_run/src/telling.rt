@@ -106,7 +106,7 @@ fn tell_examples<H: Host>(host: &mut H, users: &[BoardUser])
 }
 
 /// The port of the board; where that is 0 the system has picked one, which the doors know.
-pub(crate) fn port_of<D: Door, B, C>(board: &Board, workers: &Vec<Worker<D, B, C>>) -> u16 {
+pub(crate) fn port_of<D: Door, B, C, E>(board: &Board, workers: &Vec<Worker<D, B, C, E>>) -> u16 {
     match workers.as_slice().first() {
         Some(Worker::Node(slot)) => slot.door.port().unwrap_or(board.port),
         _ => board.port,
@@ -114,9 +114,9 @@ pub(crate) fn port_of<D: Door, B, C>(board: &Board, workers: &Vec<Worker<D, B, C
 }
 
 /// The port of news in the same way, where there is one.
-pub(crate) fn news_port_of<D: Door, B, C>(
+pub(crate) fn news_port_of<D: Door, B, C, E>(
     board: &Board,
-    workers: &Vec<Worker<D, B, C>>,
+    workers: &Vec<Worker<D, B, C, E>>,
 ) -> Option<u16> {
     match workers.as_slice().last() {
         Some(Worker::News(slot)) => slot.door.port().or(board.news_port),

@@ -1,3 +1,5 @@
+mod BackupRuns
+mod DueLemmas
 mod Pagers
 mod RingRuns
 mod SessionRuns

@@ -6,9 +6,9 @@ use Rattle.std.proofs.lemmas.List.{get_or-set_other, get_or-set_same, get_or_def
 use Rattle.std.proofs.lemmas.List.Sums.{fold-append}
 use Rattle.jb_base.specs.declared.user.User.{User}
 use Rattle.jb_host.specs.Rings.{RingsNoMore, Rings, RingsFor}
-use Rattle.jb_session.specs.Exchanges.{NodeState}
 use Rattle.jb_shared.specs.Passes.{Known, PassView}
-use Rattle.jb_server.specs.Rounds.{AnswersRing, AnswersRings, Came, OnPass, PackerWorks, Rung, RungsRun, came_of, ring_numbers, packs_after, packs_with}
+use Rattle.jb_server.specs.Packers.{OnPass, PackerState}
+use Rattle.jb_server.specs.Rounds.{AnswersRing, AnswersRings, Came, PackerWorks, Rung, RungsRun, came_of, ring_numbers, packs_after, packs_with}
 use Rattle.jb_server.proofs.Told.{left_more, left_none, took_more, took_none}
 
 -- what happens on the pass at a place happens on that of the area with the next number
@@ -29,21 +29,21 @@ on_pass happens number k old before absent after is within found did = record {
 
 module _ (user : User) where
   -- a ring more
-  run_more : (rungs : List Rung) (last : Rung) (from mid to : NodeState) → RungsRun user from rungs mid
+  run_more : (rungs : List Rung) (last : Rung) (from mid to : PackerState) → RungsRun user from rungs mid
       → AnswersRing user last.number last.came mid to → RungsRun user from (rungs ++ last ∷ []) to
   run_more [] last from mid to run answers =
-      let P : NodeState → Type 0 = λ w. AnswersRing user last.number last.came w to in
+      let P : PackerState → Type 0 = λ w. AnswersRing user last.number last.came w to in
       (to, subst P run answers, refl)
   run_more (rung ∷ rungs) last from mid to run answers = (run.0, run.1, run_more rungs last run.0 mid to run.2 answers)
 
   -- a packer that goes on: the rings that it has answered, and the packs that it has counted; its bell is not found shut
-  pub record IsPacking (old : Rings) (from : NodeState) (before : ℕ) (now : Rings) (to : NodeState) (packs : ℕ) : Type 0 where
+  pub record IsPacking (old : Rings) (from : PackerState) (before : ℕ) (now : Rings) (to : PackerState) (packs : ℕ) : Type 0 where
     pub rungs : List Rung
     pub answers : AnswersRings user rungs old from now to
     pub counts : packs ≡ packs_after before (came_of rungs)
 
   -- the bell has not rung yet
-  pub packing_none : (rings : Rings) (from : NodeState) (packs : ℕ) → IsPacking rings from packs rings from packs
+  pub packing_none : (rings : Rings) (from : PackerState) (packs : ℕ) → IsPacking rings from packs rings from packs
   packing_none rings from packs = record {
     rungs = [];
     answers = record { run = refl; rang = took_none rings.to_come; left = left_none rings.left };
@@ -51,7 +51,7 @@ module _ (user : User) where
   }
 
   -- it has rung once more
-  pub packing_more : (old now new : Rings) (from seat to : NodeState) (before packs number : ℕ) (came : Came)
+  pub packing_more : (old now new : Rings) (from seat to : PackerState) (before packs number : ℕ) (came : Came)
       → IsPacking old from before now seat packs → RingsFor number now new → AnswersRing user number came seat to
       → IsPacking old from before new to (packs_with packs came)
   packing_more old now new from seat to before packs number came so_far rings answers =
@@ -75,7 +75,7 @@ module _ (user : User) where
       }
 
   -- the bell is found shut
-  pub works_shut : (old now new : Rings) (from to : NodeState) (before packs : ℕ) → IsPacking old from before now to packs → RingsNoMore now new
+  pub works_shut : (old now new : Rings) (from to : PackerState) (before packs : ℕ) → IsPacking old from before now to packs → RingsNoMore now new
       → PackerWorks user old from before new to packs
   works_shut old now new from to before packs so_far found =
       let P : Option (List ℕ) → Type 0 = λ w. old.to_come ≡ option_map (λ rest. ring_numbers so_far.rungs ++ rest) w in

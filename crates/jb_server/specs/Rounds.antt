@@ -1,5 +1,5 @@
--- The packs that a bell asks for, one after another.
-use Rattle.std.specs.Prelude.{◌≡◌, ◌≢◌, ◌⊎◌, ℕ, ◌+◌, ◌-◌, ◌<◌, ◌≤◌, Bool, true, false, List, [], ◌∷◌, ◌++◌, length, map, slice_index_or, Option, Some, None, Result, Ok, if◌then◌else◌}
+-- The packs that a bell asks for, one after another, and the backups behind them.
+use Rattle.std.specs.Prelude.{◌≡◌, ◌⊎◌, ℕ, ◌+◌, ◌<◌, Bool, true, false, List, [], ◌∷◌, ◌++◌, length, map, Option, Some, None, Result, Ok, if◌then◌else◌}
 use Rattle.std.specs.List.{fold}
 use Rattle.std.specs.Option.{option_map}
 use Rattle.jb_base.specs.declared.user.User.{User}
@@ -8,9 +8,10 @@ use Rattle.jb_host.specs.Rings.{Rings}
 use Rattle.jb_model.specs.declared.command.Command.TheVariants.{Pack}
 use Rattle.jb_model.specs.declared.reply.Reply.{Reply}
 use Rattle.jb_model.specs.declared.reply.Reply.TheVariants.{Packed}
-use Rattle.jb_session.specs.Exchanges.{AsksPass, NodeState}
-use Rattle.jb_shared.specs.Passes.{Known, PassView}
+use Rattle.jb_session.specs.Exchanges.{AsksPass}
 use Rattle.jb_shared.specs.declared.error.SharedError.{SharedError}
+use Rattle.jb_server.specs.Backups.{BacksUpOnce}
+use Rattle.jb_server.specs.Packers.{OnPass, PackerState}
 use Rattle.jb_server.specs.Tallies.{more_of}
 
 -- what came of a ring: nothing where no area has its number, else the answer to a pack
@@ -30,14 +31,6 @@ ring_numbers rungs = map (λ rung. rung.number) rungs
 abbrev pub came_of : List Rung → List Came
 came_of rungs = map (λ rung. rung.came) rungs
 
--- this happens on the pass of the area with this number, from 1; the other passes stay
-pub record OnPass (number : ℕ) (happens : Known → Known → Type 0) (old new : List PassView) : Type 0 where
-  pub some : 1 ≤ number
-  pub within : number ≤ length old
-  pub does : (pass : PassView) → happens (slice_index_or old (number - 1) pass).known (slice_index_or new (number - 1) pass).known
-  pub count : length new ≡ length old
-  pub others : (k : ℕ) (pass : PassView) → k + 1 ≢ number → slice_index_or new k pass ≡ slice_index_or old k pass
-
 -- the answer says that the area is packed
 abbrev pub is_packed : Came → Bool
 is_packed (Some (Ok (Packed base live dropped))) = true
@@ -53,27 +46,31 @@ packs_after packs all = fold packs_with packs all
 
 -- the user who packs
 module _ (user : User) where
-  -- a ring for an area that is not there is passed over; else a pack is asked there, as the packer's next call, at the moment that its
-  -- clock shows, which moves on
-  abbrev pub AnswersRing : ℕ → Came → NodeState → NodeState → Type 0
-  AnswersRing number None old new = ((number ≡ 0) ⊎ (length old.passes < number)) × (new ≡ old)
-  AnswersRing number (Some answer) old new =
-      OnPass number (λ before after. AsksPass old.readings user Pack before after answer) old.passes new.passes
-      × (new.readings ≡ option_map readings_after old.readings)
+  -- a pack is asked of the area with this number, as the packer's next call, at the moment that its clock shows, which moves on
+  pub record PacksArea (number : ℕ) (answer : Result Reply SharedError) (old new : PackerState) : Type 0 where
+    pub asks : OnPass number (λ before after. AsksPass old.node.readings user Pack before after answer) old.node.passes new.node.passes
+    pub clock : new.node.readings ≡ option_map readings_after old.node.readings
+    pub targets : new.targets ≡ old.targets
+    pub backups : new.backups ≡ old.backups
+
+  -- a ring for an area that is not there is passed over; else it is packed, and then it is backed up, where that was not tried yet
+  abbrev pub AnswersRing : ℕ → Came → PackerState → PackerState → Type 0
+  AnswersRing number None old new = ((number ≡ 0) ⊎ (length old.node.passes < number)) × (new ≡ old)
+  AnswersRing number (Some answer) old new = (packed : PackerState) × PacksArea number answer old packed × BacksUpOnce number packed new
 
   -- the rings, one after another
-  abbrev pub RungsRun : NodeState → List Rung → NodeState → Type 0
+  abbrev pub RungsRun : PackerState → List Rung → PackerState → Type 0
   RungsRun from [] to = to ≡ from
-  RungsRun from (rung ∷ rungs) to = (mid : NodeState) × AnswersRing rung.number rung.came from mid × RungsRun mid rungs to
+  RungsRun from (rung ∷ rungs) to = (mid : PackerState) × AnswersRing rung.number rung.came from mid × RungsRun mid rungs to
 
   -- the rings are those that the bell was to give next, each answered
-  pub record AnswersRings (rungs : List Rung) (old : Rings) (from : NodeState) (new : Rings) (to : NodeState) : Type 0 where
+  pub record AnswersRings (rungs : List Rung) (old : Rings) (from : PackerState) (new : Rings) (to : PackerState) : Type 0 where
     pub run : RungsRun from rungs to
     pub rang : old.to_come ≡ option_map (λ rest. ring_numbers rungs ++ rest) new.to_come
     pub left : old.left ≡ option_map (λ n. n + length rungs) new.left
 
   -- what a packer has done once its bell is shut, since no ring was left: it has answered the rings, and counted the packs that were done
-  pub record PackerWorks (old : Rings) (from : NodeState) (before : ℕ) (new : Rings) (to : NodeState) (after : ℕ) : Type 0 where
+  pub record PackerWorks (old : Rings) (from : PackerState) (before : ℕ) (new : Rings) (to : PackerState) (after : ℕ) : Type 0 where
     pub rungs : List Rung
     pub answers : AnswersRings rungs old from new to
     pub shut : new.is_shut ≡ true

@@ -1,16 +1,17 @@
 //! The work of a packer.
-ghost use Rattle.std.specs.Prelude.{◌≡◌, ◌≤◌, None, length};
+ghost use Rattle.std.specs.Prelude.{◌≡◌, ◌≤◌, length};
 ghost use Rattle.std.specs.Option.{option_map};
 ghost use Rattle.jb_limits.specs.declared.limits.TheConstants.{MOST_NAME_BYTES};
 ghost use Rattle.jb_host.specs.Readings.{readings_after};
 ghost use Rattle.jb_model.specs.declared.command.Command.{Command};
-ghost use Rattle.jb_session.specs.Exchanges.{AreOf, AsksPass, node_with};
+ghost use Rattle.jb_session.specs.Exchanges.{AreOf, AsksPass};
 ghost use Rattle.jb_shared.specs.Areas.{IsOf};
-ghost use Rattle.jb_server.specs.Rounds.{AnswersRing, packs_with};
-ghost use Rattle.jb_server.specs.Workers.{PackerHasWorked};
+ghost use Rattle.jb_server.specs.Backups.{HasTargets};
+ghost use Rattle.jb_server.specs.Rounds.{AnswersRing, PacksArea, packs_with};
+ghost use Rattle.jb_server.specs.Workers.{PackerHasWorked, packer_of};
 
+use crate::telling::{Told, tell};
 use crate::worker::PackSlot;
-use arrayvec::ArrayString;
 use jb_base::User;
 use jb_disk::Disk;
 use jb_host::{Bell, Clock, Ring};
@@ -19,14 +20,6 @@ use jb_shared::{Pass, SharedArea, SharedError};
 use std::alloc::Global;
 use std::fmt::Write;
 use std::sync::Wait;
-
-/// What the operator is told of a pack by the bell.
-enum Told<'t> {
-    Begins,
-    /// It has ended a doubt.
-    Settled,
-    Came(&'t Result<Reply, SharedError>),
-}
 
 /// Asks a pack as the next call of a pass, at the moment that the clock shows, which is read once. `has_settled` is then whether that has ended a doubt.
 fn ask_pack<T: Wait, D: Disk, C: Clock>(
@@ -50,24 +43,6 @@ fn ask_pack<T: Wait, D: Disk, C: Clock>(
     came
 }
 
-/// Tells the operator this of the area with this number.
-fn tell<B: Bell>(bell: &mut B, number: u32, told: Told<'_>)
-    ensures { B.rings bell.new ≡ B.rings bell.old }
-{
-    let mut line = ArrayString::<96>::new();
-    let _ = write!(line, "bell: area {number}: ");
-    let _ = match told {
-        Told::Begins => line.write_str("pack begins"),
-        Told::Settled => line.write_str("settled"),
-        Told::Came(Ok(Reply::Packed { live, dropped, .. })) => {
-            write!(line, "packed, live {live} dropped {dropped}")
-        }
-        Told::Came(Err(SharedError::StoreFault)) => line.write_str("the device failed, in doubt"),
-        Told::Came(_) => line.write_str("not packed"),
-    };
-    bell.note(line.as_str());
-}
-
 /// Tells the operator what came of a pack of the area with this number, and before it whether that has ended a doubt.
 fn tell_end<B: Bell>(
     bell: &mut B,
@@ -80,12 +55,52 @@ fn tell_end<B: Bell>(
     if has_settled {
         tell(bell, number, Told::Settled);
     }
-    tell(bell, number, Told::Came(came));
+    tell(bell, number, Told::Packed(came));
 }
 
-impl<B: Bell, C: Clock> PackSlot<B, C> {
-    /// Asks a pack of the area with this number, from 1, and tells the operator so. A number that no area has is passed over.
+impl<B: Bell, C: Clock, E: Disk> PackSlot<B, C, E> {
+    /// Asks a pack of the area with this number, from 1, and tells the operator so.
     fn pack<T: Wait, D: Disk>(
+        &mut self,
+        rt: &T,
+        alloc: Global,
+        areas: &[SharedArea<D>],
+        number: u32,
+    ) -> Result<Reply, SharedError>
+        requires some { 1 ≤ number }
+        requires within { number ≤ length areas.now }
+        requires ours { AreOf areas.now self.old.passes.items }
+        requires name { length self.old.user.name ≤ MOST_NAME_BYTES }
+        ensures ours { AreOf areas.now self.new.passes.items }
+        ensures packs_area { PacksArea self.old.user number result (packer_of C.readings E.device self.old)
+            (packer_of C.readings E.device self.new) }
+
+        // All else stays.
+        ensures targets { self.new.targets ≡ self.old.targets }
+        ensures backups { self.new.backups ≡ self.old.backups }
+        ensures node { self.new.node ≡ self.old.node }
+        ensures bell { B.rings self.new.bell ≡ B.rings self.old.bell }
+        ensures user { self.new.user ≡ self.old.user }
+        ensures packs { self.new.packs ≡ self.old.packs }
+    {
+        let k = (number - 1) as usize;
+        tell(&mut self.bell, number, Told::PackBegins);
+        let mut has_settled = false;
+        let came = ask_pack(
+            rt,
+            alloc,
+            &areas[k],
+            &mut self.passes[k],
+            &mut self.clock,
+            &self.user,
+            &mut has_settled,
+        );
+        tell_end(&mut self.bell, number, &came, has_settled);
+        came
+    }
+
+    /// Packs the area with this number, and backs it up, where that was not tried yet. A number that no area has is passed over.
+    fn answer<T: Wait, D: Disk>(
         &mut self,
         rt: &T,
         alloc: Global,
@@ -94,10 +109,12 @@ impl<B: Bell, C: Clock> PackSlot<B, C> {
     ) -> Option<Result<Reply, SharedError>>
         requires ours { AreOf areas.now self.old.passes.items }
         requires name { length self.old.user.name ≤ MOST_NAME_BYTES }
+        requires targets { HasTargets self.old.targets.items self.old.backups.items }
         ensures ours { AreOf areas.now self.new.passes.items }
-        ensures answers { AnswersRing self.old.user number result
-            (node_with (C.readings self.old.clock) self.old.passes.items None)
-            (node_with (C.readings self.new.clock) self.new.passes.items None) }
+        ensures targets { HasTargets self.new.targets.items self.new.backups.items }
+        ensures count { length self.new.targets.items ≡ length self.old.targets.items }
+        ensures answers { AnswersRing self.old.user number result (packer_of C.readings E.device self.old)
+            (packer_of C.readings E.device self.new) }
 
         // All else stays.
         ensures node { self.new.node ≡ self.old.node }
@@ -105,20 +122,11 @@ impl<B: Bell, C: Clock> PackSlot<B, C> {
         ensures user { self.new.user ≡ self.old.user }
         ensures packs { self.new.packs ≡ self.old.packs }
     {
-        let k = number.checked_sub(1)? as usize;
-        let area = areas.get(k)?;
-        tell(&mut self.bell, number, Told::Begins);
-        let mut has_settled = false;
-        let came = ask_pack(
-            rt,
-            alloc,
-            area,
-            &mut self.passes[k],
-            &mut self.clock,
-            &self.user,
-            &mut has_settled,
-        );
-        tell_end(&mut self.bell, number, &came, has_settled);
+        if number == 0 || areas.len() < number as usize {
+            return None;
+        }
+        let came = self.pack(rt, alloc, areas, number);
+        self.back_up(rt, alloc, areas, number);
         Some(came)
     }
 }
@@ -133,23 +141,25 @@ fn count_pack(packs: u32, came: Option<Result<Reply, SharedError>>) -> u32
     }
 }
 
-/// One pack after another, until the bell is shut.
-pub(crate) fn serve_bell<T: Wait, D: Disk, B: Bell, C: Clock>(
+/// One ring after another, until the bell is shut.
+pub(crate) fn serve_bell<T: Wait, D: Disk, B: Bell, C: Clock, E: Disk>(
     rt: &T,
     alloc: Global,
     areas: &[SharedArea<D>],
-    slot: &mut PackSlot<B, C>,
+    slot: &mut PackSlot<B, C, E>,
 )
     requires ours { AreOf areas.now slot.old.passes.items }
     requires name { length slot.old.user.name ≤ MOST_NAME_BYTES }
+    requires targets { HasTargets slot.old.targets.items slot.old.backups.items }
     ensures ours { AreOf areas.now slot.new.passes.items }
-    ensures worked { PackerHasWorked B.rings C.readings slot.old slot.new }
+    ensures targets { HasTargets slot.new.targets.items slot.new.backups.items }
+    ensures worked { PackerHasWorked B.rings C.readings E.device slot.old slot.new }
 {
     for _ring in rt.forever() {
         match slot.bell.next() {
             Ring::Shut => return,
             Ring::Pack(number) => {
-                let came = slot.pack(rt, alloc, areas, number);
+                let came = slot.answer(rt, alloc, areas, number);
                 slot.packs = count_pack(slot.packs, came);
             }
         }

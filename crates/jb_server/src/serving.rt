@@ -17,18 +17,18 @@ use std::thread;
 use std::thread::Threads;
 
 /// What one worker does, until it is done.
-fn work<T: Wait, D: Disk, R: Door, B: Bell, C: Clock>(
+fn work<T: Wait, D: Disk, E: Disk, R: Door, B: Bell, C: Clock>(
     rt: &T,
     alloc: Global,
     board: &Board,
     areas: &[SharedArea<D>],
     pages: &Pages,
-    worker: &mut Worker<R, B, C>,
+    worker: &mut Worker<R, B, C, E>,
 )
     requires areas { length areas.now ≡ length board.now.areas }
     requires ours { IsAtWork areas.now pages.now board.now worker.old }
     ensures ours { IsAtWork areas.now pages.now board.now worker.new }
-    ensures worked { HasWorked R.gate B.rings C.readings board.now worker.old worker.new }
+    ensures worked { HasWorked R.gate B.rings C.readings E.device board.now worker.old worker.new }
 {
     match worker {
         Worker::Node(slot) => serve_callers(rt, alloc, board, areas, pages, Service::Menus, slot),
@@ -42,6 +42,7 @@ fn work<T: Wait, D: Disk, R: Door, B: Bell, C: Clock>(
 pub fn serve<
     T: Threads + Wait + Sync,
     D: Disk + Send + Sync,
+    E: Disk + Send,
     R: Door + Send,
     B: Bell + Send,
     C: Clock + Send,
@@ -51,7 +52,7 @@ pub fn serve<
     board: &Board,
     areas: &[SharedArea<D>],
     pages: &Pages,
-    workers: &mut [Worker<R, B, C>],
+    workers: &mut [Worker<R, B, C, E>],
 )
 where
     R::Link: Send,
@@ -59,7 +60,7 @@ where
     requires ours { All (IsAtWork areas.now pages.now board.now) workers.old }
     ensures ours { All (IsAtWork areas.now pages.now board.now) workers.new }
     ensures worked { (k : ℕ) (absent : _) → k < length workers.old
-        → HasWorked R.gate B.rings C.readings board.now (slice_index_or workers.old k absent)
+        → HasWorked R.gate B.rings C.readings E.device board.now (slice_index_or workers.old k absent)
         (slice_index_or workers.new k absent) }
 {
     if workers.is_empty() {

@@ -1,6 +1,6 @@
 -- An area at rest and a command of a tool: what the files open to meanwhile.
 use Rattle.std.proofs.Common.{◌≡◌, inl, inr, ℕ, ◌≤◌, List, length, ap, refl, sym, subst, arith}
-use Rattle.jb_area.specs.Area.{IsBegun, IsResting}
+use Rattle.jb_area.specs.Area.{IsBegun}
 use Rattle.jb_area.specs.Holds.{IsAtRest, Opens, OpensToEither}
 use Rattle.jb_area.specs.declared.area.OpenArea.{OpenArea}
 use Rattle.jb_limits.specs.declared.limits.TheConstants.{MOST_SLOTS}
@@ -40,13 +40,6 @@ leaves_only_weaken P Q old new weaker leaves = record {
 }
 
 module _ {D : Type 0} (shown : D → Device) (command : Command) where
-  -- an area at rest has no more slots than any may have
-  pub few_resting : (area : OpenArea D) (texts : List ℕ) → IsResting shown area texts → length area.held.slots ≤ MOST_SLOTS
-  few_resting area texts rests =
-      let limit = rests.kept.ruled.few_slots in
-      let few = rests.kept.ruled.sound.few_slots in
-      omega (arith, limit, few)
-
   -- the area to come of a call that is begun has no more slots than any may have
   few_coming : (area : OpenArea D) (texts : List ℕ) (reply : Reply) (coming : Coming) → IsBegun shown area texts reply coming → length coming.to.slots ≤ MOST_SLOTS
   few_coming area texts reply coming begun =

@@ -26,7 +26,8 @@ use Rattle.jb_model.specs.Step.{Step}
 use Rattle.jb_model.specs.declared.command.Command.{Command}
 use Rattle.jb_state.specs.declared.loaded.Loaded.{Loaded}
 use Rattle.jb_model.specs.declared.reply.Reply.{Reply}
-use Rattle.jb_tool.proofs.ChangingLemmas.{either_way, few_resting, holds_stands, leaves_only_weaken, opens_area}
+use Rattle.jb_area.proofs.BackupLemmas.{rest_few}
+use Rattle.jb_tool.proofs.ChangingLemmas.{either_way, holds_stands, leaves_only_weaken, opens_area}
 use Rattle.jb_tool.proofs.Recovering.{counts_then}
 use Rattle.jb_tool.specs.Changing.{DoesCommand, HasNoLine, IsStoppedBy, of_area}
 use Rattle.jb_tool.specs.Recovered.{is_tool_fault}
@@ -53,7 +54,7 @@ module _ {D : Type 0} (shown : D → Device) (command : Command) (old : OpenArea
       → (texts : List ℕ) → IsResting shown old texts → LeavesOnly (shown old.disk) (shown new.disk) (OpensForEither command (state_of texts old.held))
   left_begun new result begins files there texts rests =
       leaves_only_weaken (Opens old.held texts) (OpensForEither command (state_of texts old.held)) (shown old.disk) (shown new.disk)
-      (λ left opens. inl (opens_area old.held texts left (few_resting shown command old texts rests) opens)) (begins.crash texts rests files there)
+      (λ left opens. inl (opens_area old.held texts left (rest_few shown old texts rests) opens)) (begins.crash texts rests files there)
 
   -- why it was not begun
   stopped_by : (error : AreaError) (new : OpenArea D) → BeginsCall shown old new tool_user 0 command (Err error) → IsStoppedBy shown command old new (of_area error)
@@ -114,7 +115,7 @@ module _ {D : Type 0} (shown : D → Device) (command : Command) (old : OpenArea
       now = λ files there texts rests last last_is.
           let begun = begins.begun texts rests in
           let at = (done texts begun.reply begun.coming begun.begun).1 in
-          let stands = holds_stands new.held begun.coming.texts last (few_resting shown command new begun.coming.texts at.rests) (at.rests.kept.settled.rests last last_is).holds in
+          let stands = holds_stands new.held begun.coming.texts last (rest_few shown new begun.coming.texts at.rests) (at.rests.kept.settled.rests last last_is).holds in
           subst (StandsFor MOST_SLOTS last) (ap (λ (l : Loaded). state_of begun.coming.texts l) at.is ∙ ap (λ (a : Answered). a.state) (sym (becomes texts files there rests))) stands;
       synced =
           let begun = begins.begun rest.texts rest.rests in

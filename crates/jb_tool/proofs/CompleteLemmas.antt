@@ -29,12 +29,12 @@ use Rattle.jb_tool.specs.Laws.{IsCompleteAnswer, IsUsedOn, MakesWhereNoneIs, Ser
 use Rattle.jb_tool.specs.Recovered.{RefusesReading, is_tool_fault}
 use Rattle.jb_tool.specs.Tending.{Tends, tool_answer, tool_answered}
 use Rattle.jb_tool.specs.declared.error.ToolError.{ToolError}
-use Rattle.jb_tool.specs.declared.error.ToolError.TheVariants.{BadJournal, Open, AlreadyThere, TextFull}
+use Rattle.jb_tool.specs.declared.error.ToolError.TheVariants.{BadJournal, Open, AlreadyThere, TextFull, NotEmpty}
 use Rattle.jb_tool.specs.declared.tool.Tool.{Tool}
 use Rattle.jb_tool.specs.declared.tool.Tool.TheVariants as tool
 
 -- what is not of the files and no fault is want of memory
-wants_memory : (error : OpenError) → IsNotOfFiles error → Open error ≢ Open StoreFault → error ≡ no_memory
+pub wants_memory : (error : OpenError) → IsNotOfFiles error → Open error ≢ Open StoreFault → error ≡ no_memory
 wants_memory StoreFault of_none fault = absurd (fault refl)
 wants_memory no_memory of_none fault = refl
 wants_memory _ of_none fault = absurd of_none
@@ -71,6 +71,7 @@ module _ (was : Files) (used : Tool) (moment : ℕ) (before after : Device) wher
         wants_memory error (not_refused_where_open MOST_SLOTS opens.after opens.loaded error opens.opens (subst (λ (f : Files). IsRefusedBy MOST_SLOTS f error) one so.has)) fault
     looks AlreadyThere is refused = absurd refused
     looks (TextFull len) is refused = absurd refused
+    looks (NotEmpty file) is refused = absurd refused
 
     -- and so does one that tends it, where the texts may be too long for that one
     tends : (command : Command) (error : ToolError) → ((len : ℕ) → Tends command before after (Err (TextFull len)) → used ≡ tool.Pack)
@@ -85,6 +86,7 @@ module _ (was : Files) (used : Tool) (moment : ℕ) (before after : Device) wher
     ]
     tends command AlreadyThere full is refused = absurd refused
     tends command (TextFull len) full is refused = full len refused
+    tends command (NotEmpty file) full is refused = absurd refused
 
 -- what is not made of files that replay is not for their journal
 unmade : (was files : Files) (moment : ℕ) (before after : Device) (error : ToolError) → Replays was files → IsUsedOn was tool.Make moment before after (Err error)
@@ -98,6 +100,7 @@ unmade was files moment before after (Open error) replays is = elim is.answers.s
 ]
 unmade was files moment before after AlreadyThere replays is = inr refl
 unmade was files moment before after (TextFull len) replays is = absurd is.answers.says
+unmade was files moment before after (NotEmpty file) replays is = absurd is.answers.says
 
 -- a tool serves each base that opens
 pub serves_what_opens : ServesWhatOpens

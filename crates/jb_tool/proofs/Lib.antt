@@ -1,3 +1,5 @@
+mod BackedLemmas
+mod BackingLemmas
 mod ChangingLemmas
 mod CommandLemmas
 mod CompleteLemmas

@@ -1,4 +1,6 @@
 pub mod Answers
+pub mod Backing
+pub mod BackingArea
 pub mod Changing
 pub mod Check
 pub mod Laws

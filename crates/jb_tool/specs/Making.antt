@@ -21,7 +21,7 @@ use Rattle.jb_tool.specs.Outcome.{tool_outcome}
 use Rattle.jb_tool.specs.Recovered.{IsRecoveredTo}
 use Rattle.jb_tool.specs.Tending.{ToolAnswer}
 use Rattle.jb_tool.specs.declared.error.ToolError.{ToolError}
-use Rattle.jb_tool.specs.declared.error.ToolError.TheVariants.{BadJournal, Open, AlreadyThere, TextFull}
+use Rattle.jb_tool.specs.declared.error.ToolError.TheVariants.{BadJournal, Open, AlreadyThere, TextFull, NotEmpty}
 use Rattle.jb_tool.specs.declared.tool.Tool.TheVariants as tool
 
 -- one of the four files of a base is not empty
@@ -62,6 +62,7 @@ RefusesMaking before after (BadJournal at) = ForSome before.contents (IsRefusedO
 RefusesMaking before after AlreadyThere = ForSome before.contents (λ was. IsRecoveredTo HoldSomething was after)
 RefusesMaking before after (Open error) = IsNotMade before after error
 RefusesMaking before after (TextFull length) = ⊥
+RefusesMaking before after (NotEmpty file) = ⊥
 
 -- the answer of `make`
 abbrev pub AnswersMake : ℕ → Device → Device → ToolAnswer → Type 0

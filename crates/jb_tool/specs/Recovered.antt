@@ -14,7 +14,7 @@ use Rattle.jb_journal.specs.Recover.{IsGrowthSafe, IsRefusedOver, ReplaysAsAtSta
 use Rattle.jb_redo.specs.Reading.{HasRecord}
 use Rattle.jb_redo.specs.Replay.{Replays}
 use Rattle.jb_tool.specs.declared.error.ToolError.{ToolError}
-use Rattle.jb_tool.specs.declared.error.ToolError.TheVariants.{BadJournal, Open, AlreadyThere, TextFull}
+use Rattle.jb_tool.specs.declared.error.ToolError.TheVariants.{BadJournal, Open, AlreadyThere, TextFull, NotEmpty}
 
 -- the disk now has the files to which these replay, nothing of them is unsynced, and they have this property
 pub record HasReplayed (property : Files → Type 0) (was : Files) (after : Device) : Type 0 where
@@ -46,6 +46,7 @@ RefusesReading before after (BadJournal at) = ForSome before.contents (IsRefused
 RefusesReading before after (Open error) = error ≢ StoreFault → ForSome before.contents (λ was. IsRecoveredTo (λ files. IsRefusedBy MOST_SLOTS files error) was after)
 RefusesReading before after AlreadyThere = ⊥
 RefusesReading before after (TextFull length) = ⊥
+RefusesReading before after (NotEmpty file) = ⊥
 
 -- a crash at any moment leaves files that replay to what some replay to that it might have left at the start, where the record behind an open gate writes each byte past an old end
 abbrev pub KeepsReplay : Device → Device → Type 0

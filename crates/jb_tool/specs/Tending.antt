@@ -26,7 +26,7 @@ use Rattle.jb_redo.specs.Reading.{HasRecord}
 use Rattle.jb_redo.specs.Replay.{Replays}
 use Rattle.jb_text.specs.Replies.{reply_text}
 use Rattle.jb_tool.specs.declared.error.ToolError.{ToolError}
-use Rattle.jb_tool.specs.declared.error.ToolError.TheVariants.{BadJournal, Open, AlreadyThere, TextFull}
+use Rattle.jb_tool.specs.declared.error.ToolError.TheVariants.{BadJournal, Open, AlreadyThere, TextFull, NotEmpty}
 
 -- what a tool answers: the text to print, or why it is refused
 abbrev pub ToolAnswer : Type 0
@@ -102,6 +102,7 @@ Tends command before after (Err (TextFull length)) = ForSome before.contents (λ
 Tends command before after (Err (BadJournal at)) = Refuses MOST_SLOTS before after (bad_journal at)
 Tends command before after (Err (Open error)) = IsNotTended command before after error
 Tends command before after (Err AlreadyThere) = ⊥
+Tends command before after (Err (NotEmpty file)) = ⊥
 
 -- the base opened to an area, and these files open to it or to the one that the command makes of it
 pub record IsOldOrNew (command : Command) (was files : Files) : Type 0 where

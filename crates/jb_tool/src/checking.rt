@@ -22,7 +22,7 @@ use jb_state::Loaded;
 use std::alloc::Global;
 
 /// Puts a line behind a text: a name, a space and a number.
-fn append_count(text: &mut Bytes, name: &[u8], count: u64) -> Result<(), OutOfMemory>
+pub(crate) fn append_count(text: &mut Bytes, name: &[u8], count: u64) -> Result<(), OutOfMemory>
     ensures { OnOk result (text.new ≡ text.old ++ count_line name.now count) }
 {
     let mut digits = Buffer::new();

@@ -1,13 +1,15 @@
 //! Why a tool is refused.
 ghost use Rattle.std.specs.Prelude.{◌≡◌};
 ghost use Rattle.jb_image.specs.declared.error.OpenError.TheVariants.{OutOfMemory as no_memory, StoreFault as store_fault};
+ghost use Rattle.jb_tool.specs.Backing.{of_backup};
 ghost use Rattle.jb_tool.specs.Changing.{of_opening};
 ghost use Rattle.jb_tool.specs.Recovered.{tool_of_journal};
 ghost use Rattle.jb_tool.specs.declared.error.ToolError.TheVariants.{Open};
 
 use jb_area_open::OpeningError;
+use jb_backup::BackupError;
 use jb_base::OutOfMemory;
-use jb_disk::DiskFailed;
+use jb_disk::{DiskFailed, FileId};
 use jb_image::OpenError;
 use jb_journal::{JournalError, Stopped};
 
@@ -24,6 +26,8 @@ pub enum ToolError {
     /// The live texts would have `length` bytes in all, which is more than .JDT may have. Nothing is changed but that the base
     /// is recovered.
     TextFull { length: u64 },
+    /// A file of the disk for the backup, the lowest, is not empty. All of them are as they were.
+    NotEmpty { file: FileId },
 }
 
 impl From<JournalError> for ToolError {
@@ -44,6 +48,20 @@ impl From<OpeningError> for ToolError {
         match error {
             OpeningError::BadJournal { at } => ToolError::BadJournal { at },
             OpeningError::Base(error) => ToolError::Open(error),
+        }
+    }
+}
+
+impl From<BackupError> for ToolError {
+    ghost from_gives = { λ error refusal. refusal ≡ of_backup error };
+
+    fn from(error: BackupError) -> ToolError {
+        match error {
+            BackupError::SourceFault | BackupError::TargetFault | BackupError::InDoubt => {
+                ToolError::Open(OpenError::StoreFault)
+            }
+            BackupError::NotEmpty { file } => ToolError::NotEmpty { file },
+            BackupError::OutOfMemory => ToolError::Open(OpenError::OutOfMemory),
         }
     }
 }

@@ -12,7 +12,9 @@
 #![tactic(auto)]
 
 mod asking;
+mod backing;
 mod checking;
+mod copying;
 mod counting;
 mod counts;
 mod error;
@@ -29,6 +31,7 @@ mod tending;
 mod tool;
 mod workload;
 
+pub use backing::backup;
 pub use checking::check;
 pub use error::ToolError;
 pub use laws::tools_are_complete;

@@ -18,7 +18,7 @@ use jb_model::{Command, Reply};
 use std::alloc::Global;
 
 /// The rules under which a tool tends an area.
-fn tool_rules(alloc: Global) -> Result<AreaRules, OutOfMemory>
+pub(crate) fn tool_rules(alloc: Global) -> Result<AreaRules, OutOfMemory>
     ensures { IfOk result (λ rules. rules ≡ tool_rules) }
 {
     let address = Bytes::copy(alloc, b"1:1/1")?;

@@ -6,4 +6,4 @@ returns-clause-faults g c = fails_by_faults g.H.Host.door_for g.H.Host.bell_over
 
 pub returns-clause-served : goal.returns-clause-served
 returns-clause-served g c =
-    serves_what_is_there c.open_boards_are_served.ensures c.tools_are_complete.ensures.served c.tools_are_complete.ensures.made g.H.Host.door_for g.H.Host.bell_over
+    serves_what_is_there c.open_boards_are_served.ensures c.tools_are_complete.ensures.served c.tools_are_complete.ensures.made c.tools_are_complete.ensures.backed g.H.Host.door_for g.H.Host.bell_over

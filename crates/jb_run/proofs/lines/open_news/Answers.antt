@@ -47,7 +47,7 @@ returns-in_err-slot-clause-err g c =
 
 pub returns-clause-ok : goal.returns-clause-ok
 returns-clause-ok g c = λ old has.
-    let W : Type 0 = Worker g.row.H-Door.Denot g.row.H-Bell.Denot g.row.H-Clock.Denot in
+    let W : Type 0 = Worker g.row.H-Door.Denot g.row.H-Bell.Denot g.row.H-Clock.Denot g.row.H-Disk.Denot in
     let board = c.args.board.now in
     let fewer = c.args.workers.now.items in
     let slot = c.in_ok-slot.slot in
@@ -62,7 +62,7 @@ returns-clause-ok g c = λ old has.
 
 pub returns-clause-rows : goal.returns-clause-rows
 returns-clause-rows g c =
-    let W : Type 0 = Worker g.row.H-Door.Denot g.row.H-Bell.Denot g.row.H-Clock.Denot in
+    let W : Type 0 = Worker g.row.H-Door.Denot g.row.H-Bell.Denot g.row.H-Clock.Denot g.row.H-Disk.Denot in
     let taken = c.in_ok-slot.ensures in
     ap (λ (l : List W). with_passes l (lists_of c.open_line.new.nodes.items)) c.push_reserved.ensures.items
     ∙ rows_taken c.args.workers.now.items (News c.in_ok-slot.slot) _ (lists_of c.args.nodes.now.items) (lists_of c.open_line.new.nodes.items)
@@ -71,7 +71,7 @@ returns-clause-rows g c =
 -- who serves news has no pager
 pub returns-clause-pagers : goal.returns-clause-pagers
 returns-clause-pagers g c =
-    let W : Type 0 = Worker g.row.H-Door.Denot g.row.H-Bell.Denot g.row.H-Clock.Denot in
+    let W : Type 0 = Worker g.row.H-Door.Denot g.row.H-Bell.Denot g.row.H-Clock.Denot g.row.H-Disk.Denot in
     let fewer = c.args.workers.now.items in
     ap (λ (l : List W). pagers_of l) c.push_reserved.ensures.items ∙ pagers_push fewer (News c.in_ok-slot.slot)
     ∙ ap (λ (o : Option PagerView). pagers_of fewer ++ option_to_list o) c.in_ok-slot.ensures.pager ∙ append-nil (pagers_of fewer)

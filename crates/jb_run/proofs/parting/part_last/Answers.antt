@@ -14,7 +14,7 @@ use Rattle.jb_run.proofs.parting.part_last.Goals as goal
 -- the last has a door
 pub slot_of-node-requires : goal.slot_of-node-requires
 slot_of-node-requires g c =
-    let W : Type 0 = Worker g.row.H-Door.Denot g.row.H-Bell.Denot g.row.H-Clock.Denot in
+    let W : Type 0 = Worker g.row.H-Door.Denot g.row.H-Bell.Denot g.row.H-Clock.Denot g.row.H-Disk.Denot in
     all_end HasDoor c.pop.new.self.items c.in_ok-worker.worker (subst (λ (l : List W). All HasDoor l) c.in_ok-worker.ensures.items c.requires.doors)
 
 pub returns-clause-some : goal.returns-clause-some
@@ -42,7 +42,7 @@ returns-clause-rows g c =
 -- there is room for its pager
 pub put_back-requires : goal.put_back-requires
 put_back-requires g c =
-    let W : Type 0 = Worker g.row.H-Door.Denot g.row.H-Bell.Denot g.row.H-Clock.Denot in
+    let W : Type 0 = Worker g.row.H-Door.Denot g.row.H-Bell.Denot g.row.H-Clock.Denot g.row.H-Disk.Denot in
     let one = c.in_ok-worker.worker in
     let slot = c.slot_of-node.result in
     let has = has_slot one slot c.slot_of-node.ensures in
@@ -57,7 +57,7 @@ put_back-requires g c =
 
 pub returns-clause-pagers : goal.returns-clause-pagers
 returns-clause-pagers g c =
-    let W : Type 0 = Worker g.row.H-Door.Denot g.row.H-Bell.Denot g.row.H-Clock.Denot in
+    let W : Type 0 = Worker g.row.H-Door.Denot g.row.H-Bell.Denot g.row.H-Clock.Denot g.row.H-Disk.Denot in
     let one = c.in_ok-worker.worker in
     let slot = c.slot_of-node.result in
     let has = has_slot one slot c.slot_of-node.ensures in

@@ -12,7 +12,7 @@ use Rattle.jb_run.proofs.parting.part_lines.Goals as goal
 
 pub loop-failed-preserved : goal.loop-failed-preserved
 loop-failed-preserved g c =
-    let W : Type 0 = Worker g.row.H-Door.Denot g.row.H-Bell.Denot g.row.H-Clock.Denot in
+    let W : Type 0 = Worker g.row.H-Door.Denot g.row.H-Bell.Denot g.row.H-Clock.Denot g.row.H-Disk.Denot in
     let at = c.loop-failed in
     let fewer = c.part_last.new.workers.items in
     let parts = c.in-Some.ensures.some in
@@ -40,7 +40,7 @@ returns-clause-doors g c =
 -- all pagers are back
 pub returns-clause-pagers : goal.returns-clause-pagers
 returns-clause-pagers g c =
-    let W : Type 0 = Worker g.row.H-Door.Denot g.row.H-Bell.Denot g.row.H-Clock.Denot in
+    let W : Type 0 = Worker g.row.H-Door.Denot g.row.H-Bell.Denot g.row.H-Clock.Denot g.row.H-Disk.Denot in
     let at = c.loop-failed in
     let none = c.in_default.ensures.none in
     ap (λ (v : Vec PagerView Global). v.items) none.3 ∙ sym (append-nil at.pagers.items)

@@ -8,6 +8,7 @@ returns-clause-bell g c = record {
   slot = c.in-Some-Packer.slot;
   is = rw c.in-Some-Packer.field-0-is at c.in-Some-Packer.ensures.items;
   back = c.put_bell.ensures;
+  left = refl;
 }
 
 pub returns-clause-rows : goal.returns-clause-rows

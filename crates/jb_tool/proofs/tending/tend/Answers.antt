@@ -20,7 +20,7 @@ returns-in-Ok-open_area-clause-answer g c =
     let before = g.D.Disk.device c.args.disk in
     let opened = c.in-Ok-open_area.ensures in
     subst (λ (d : Device). Tends c.args.command.now before d c.tend_area-answer.result) c.close.ensures
-    (tends_opened shown c.args.command.now before c.in-Ok-open_area.area opened.recovered opened.opened opened.rest c.tend_area-answer.new.area c.tend_area-answer.result c.tend_area-answer.ensures)
+    (tends_opened shown before c.in-Ok-open_area.area opened.recovered opened.opened opened.rest c.args.command.now c.tend_area-answer.new.area c.tend_area-answer.result c.tend_area-answer.ensures)
 
 pub returns-in-Ok-open_area-clause-crash : goal.returns-in-Ok-open_area-clause-crash
 returns-in-Ok-open_area-clause-crash g c =
@@ -28,7 +28,7 @@ returns-in-Ok-open_area-clause-crash g c =
     let before = g.D.Disk.device c.args.disk in
     let opened = c.in-Ok-open_area.ensures in
     subst (λ (d : Device). KeepsOrTends c.args.command.now before d) c.close.ensures
-    (crash_opened shown c.args.command.now before c.in-Ok-open_area.area opened.recovered opened.opened opened.rest c.tend_area-answer.new.area c.tend_area-answer.result opened.crash c.tend_area-answer.ensures)
+    (crash_opened shown before c.in-Ok-open_area.area opened.recovered opened.opened opened.rest c.args.command.now c.tend_area-answer.new.area c.tend_area-answer.result opened.crash c.tend_area-answer.ensures)
 
 pub returns-clause-answer : goal.returns-clause-answer
 returns-clause-answer g c =
