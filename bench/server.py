@@ -60,9 +60,9 @@ OPENING = 60
 
 
 class Server:
-    """A run of `serve` over fresh bases, and the processor time that it has spent."""
+    """A run of `serve` over fresh bases, with more words where they are given, and the processor time that it has spent."""
 
-    def __init__(self, program, folder, before=(), large=0, times=1, settings=SETTINGS):
+    def __init__(self, program, folder, before=(), large=0, times=1, settings=SETTINGS, words=(), stderr=subprocess.DEVNULL):
         shutil.rmtree(f"{folder}/areas", ignore_errors=True)
         os.mkdir(f"{folder}/areas")
         make_base.write(f"{folder}/areas", "general", 60, False)
@@ -74,7 +74,7 @@ class Server:
         with open(f"{folder}/board.toml", "w") as file:
             file.write(settings.format(port=self.port) + "".join(USER.format(n=n, digest=digest) for n in range(1, max(COUNTS) + 1)))
         os.sync()
-        self.child = subprocess.Popen([*before, program, "serve", "board.toml"], cwd=folder, stderr=subprocess.DEVNULL, start_new_session=True)
+        self.child = subprocess.Popen([*before, program, "serve", "board.toml", *words], cwd=folder, stderr=stderr, start_new_session=True)
         atexit.register(self.ends)
         connected(self.port, is_going=lambda: self.child.poll() is None, limit=OPENING).close()
         self.pid = self.child.pid if not before else child_of(self.child.pid)

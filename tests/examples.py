@@ -119,10 +119,29 @@ def try_areas(trial):
                   ("file: the folder board.toml cannot be made: File exists", "general: already there"))
 
 
+def try_backups(trial):
+    """Areas are backed up into a folder that is made for it; a second time each is refused, and a damaged one is not copied."""
+    for folder in ("areas", "more"):
+        shutil.rmtree(f"{trial.folder}/{folder}")
+    trial.has_settings_of(AREAS)
+    trial.answers("bases are made", ("areas", "make", "board.toml"), 0, ("general: made", "Letters to all: made", "trade: made"))
+    done = ("areas", "backup", "board.toml", "copies/today")
+    trial.answers("a backup of three areas", done, 0, ("general: backed 0", "Letters to all: backed 0", "trade: backed 0"))
+    trial.is_so("a backup is a base", trial.done(trial.program, "list", "copies/today", "general"), (0, "", ""))
+    names = ("general", "Letters to all", "trade")
+    trial.answers("the same once more", done, 3, [f"{name}: fault 3.19 NotEmpty 0" for name in names],
+                  ("board: copies/today/general: ", "board: copies/today/letters: ", "board: copies/today/trade: "))
+    with open(f"{trial.folder}/areas/trade.JDX", "wb") as file:
+        file.write(b"cut")
+    trial.answers("a damaged area", (*done[:3], "copies"), 3, ("general: backed 0", "Letters to all: backed 0", "trade: fault 3.4 IndexLength"),
+                  ("board: areas/trade: ",))
+    trial.answers("a folder that cannot be made", (*done[:3], "board.toml"), 4, (), ("areas: the folder board.toml cannot be made: ",))
+
+
 def try_words(trial):
     """What is refused before anything is run, and where the program is looked for."""
-    for words in ((), ("check",), ("look", "board.toml"), ("check", "board.toml", "more")):
-        trial.answers(f"the words {words}", ("areas", *words), 1, (), ("usage: ", "areas make"))
+    for words in ((), ("check",), ("look", "board.toml"), ("check", "board.toml", "more"), ("backup", "board.toml")):
+        trial.answers(f"the words {words}", ("areas", *words), 1, (), ("usage: ", "areas make", "areas backup"))
     trial.answers("settings that are not there", ("areas", "check", "none.toml"), 5, (), ("areas: none.toml: ",))
     for text, why in (("name", "no TOML"), ('name = "\xff"', "no TOML"), ("name = 1", "no table"), ("area = 1", "no table"), ("area = []", "no table"),
                       ('[[area]]\nname = "a"\nbase = "b"', "area 1 has no dir"), ('[[area]]\nname = "a"\ndir = 1\nbase = "b"', "area 1 has no dir")):
@@ -213,7 +232,7 @@ def main(program):
     try:
         shutil.copy(program, f"{folder}/program")
         trial = Examples(f"{folder}/program", folder)
-        for tried in (try_areas, try_words, try_digest, try_settings, try_units):
+        for tried in (try_areas, try_backups, try_words, try_digest, try_settings, try_units):
             tried(trial)
     finally:
         shutil.rmtree(folder)

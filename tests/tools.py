@@ -31,12 +31,13 @@ FIGURES = b"base %d\nnext %d\nlive %d\nkilled %d\nempty %d\nmsgids %d\nlinked %s
 SECONDS = 600
 HELP = b"".join(b"board %s\n" % form for form in (
     b"list DIR NAME", b"check DIR NAME", b"make DIR NAME", b"pack DIR NAME", b"relink DIR NAME", b"load SEED COUNT", b"local CONF", b"serve CONF",
-    b"serve CONF --calls N", b"help"))
+    b"serve CONF --calls N", b"backup DIR NAME DIR2", b"serve CONF --calls N --backup DIR2", b"help"))
 NO_COMMANDS = (
     "", "list", "list areas", "list  areas", "list areas ", "list areas general x", "LIST areas general", "lists areas general", "--help", "-h", "HELP",
     "help me", "--version", "check areas", "make areas", "pack areas", "relink areas", "relinks areas general", "load 7", "load 4294967296 1",
     "load 7 50001", "load 00000000007 1", "load +7 1", "load 7 -1", "load 7x 1", "load  1", "serve", "serve board.toml --calls",
-    "serve board.toml --calls 0", "serve board.toml --calls 1000001", "serve board.toml --calls one", "serve board.toml --nodes 1", "local",
+    "serve board.toml --calls 0", "serve board.toml --calls 1000001", "serve board.toml --calls one", "serve board.toml --nodes 1", "backup areas general", "backup areas general areas",
+    "backup areas general copies x", "serve board.toml --backup", "serve board.toml --backup copies --calls 1", "local",
     "local board.toml --calls 1")
 # with what each write of a session ends whose lines come one by one, and how many lines were read before it: nothing is said to the one of the text
 ENDS = (b"Name: ", b"Password: ", b"Top> ", b"1 unread.\r\n[general] ", b"Good\r\n\r\n[general] ", b"cancels\r\n", b"as 2.\r\n[general] ", b"Goodbye.\r\n")
