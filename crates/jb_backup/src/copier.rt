@@ -88,8 +88,8 @@ impl Copier {
         Ok(())
     }
 
-    /// Copies the next `PART_BYTES` of the texts that lie below `end` and below their end, or all that are left there, and
-    /// answers whether some are left.
+    /// Copies the next `PART_BYTES` of the texts that lie below `end` and below their end, or all that are left there, syncs
+    /// them, and answers whether some are left.
     pub fn some<S: Source, E: Disk>(
         &mut self,
         source: &mut S,

@@ -19,7 +19,7 @@ pub(crate) struct Reached {
     pub(crate) more: bool,
 }
 
-/// Copies the next part of the texts below an end, or all that are left there.
+/// Copies the next part of the texts below an end, or all that are left there, and syncs them.
 pub(crate) fn copy_texts<S: Source, E: Disk>(
     source: &mut S,
     onto: &mut E,
@@ -62,6 +62,7 @@ pub(crate) fn copy_texts<S: Source, E: Disk>(
     onto.set_len(FileId::Jdt, after)?;
     let part = &mut buffer[..count as usize];
     copy_chunk(source, onto, FileId::Jdt, copied, part)?;
+    onto.sync(FileId::Jdt)?;
     Ok(Reached {
         copied: after,
         more: after < stop,
