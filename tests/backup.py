@@ -41,7 +41,7 @@ BACKED_UP = ("backup", "areas", "general", "copies")
 CALLS, CHANGES = ("openat", "ftruncate", "pwrite64", "fsync"), ("ftruncate", "pwrite64", "fsync")
 CHANGE = re.compile(r"\d+ +(\w+)\(\d+<([^>]*)>(?:, (.*))?\) += (-?\d+)")
 # what a disk writes whole, how many sets of files are drawn behind each call, and how many of them are looked at together
-SECTOR, DRAWN, TOGETHER = 512, 40, 16
+SECTOR, DRAWN, TOGETHER = 512, 80, 16
 # microseconds for which each write of a backup waits where one caller posts meanwhile, and where many do; how many they are; and the seconds for which
 # each pauses between two posts, and posts at most
 HELD, HELD_SHORTLY, POSTERS, PAUSE, MOST_SECONDS = 700_000, 60_000, 32, 0.01, 2 * GUARD
