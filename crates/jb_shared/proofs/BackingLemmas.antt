@@ -35,7 +35,7 @@ use Rattle.jb_state.specs.State.{AreaState, slot_state, state_of}
 use Rattle.jb_turn.specs.Rows.{Begins, StandsFrom}
 use Rattle.jb_turn.specs.Steps.{given, sighted as took_in}
 use Rattle.jb_shared.specs.Backing.{CopiesOnto, CopiesPart, GoesOn, HasCopied, IsCopiedOf, IsReady, IsRenewed, MayNotBegin}
-use Rattle.jb_shared.specs.Backups.{AnswersBackup, BacksState, BacksUp, EndsStopped, Finishes, FinishesAs, HasFoundEmpty, TurnsEnd, state_after}
+use Rattle.jb_shared.specs.Backups.{AnswersBackup, BacksState, BacksUp, EndsStopped, Finishes, FinishesAs, HasFoundEmpty, TurnsEnd, state_after, told_backed}
 use Rattle.jb_shared.specs.Histories.{IsHistory, Tells, state_at, stopped_last}
 use Rattle.jb_shared.specs.InTurn.{Knows, SeatRow}
 use Rattle.jb_shared.specs.Inside.{known_by_both, known_in, pass_of}
@@ -273,13 +273,8 @@ module _ {D : Type 0} (shown : D → Device) where
       let t : Tells first = sym stands.told ∙ ap is_some there in
       copied_goes old backing target first front (packs_of area) files ready.copied known t grows (settled_packs area first front state stands t) (settled_texts area first front state stands t files there)
 
--- the answer of a last turn, by how many messages are live
-abbrev pub backed_with : ℕ → Result ℕ BackupError → Result Backed BackupError
-backed_with entries (Ok live) = Ok (record { entries = entries; live = live })
-backed_with entries (Err error) = Err error
-
 -- the counts of its disk are those of the calls in it
-counts_backed : (entries : ℕ) (old new : Device) (result : Result ℕ BackupError) → CountsFaults is_target_fault old new result → CountsFaults is_target_fault old new (backed_with entries result)
+counts_backed : (entries : ℕ) (old new : Device) (result : Result ℕ BackupError) → CountsFaults is_target_fault old new result → CountsFaults is_target_fault old new (told_backed entries result)
 counts_backed entries old new (Ok live) counts = record { quiet = counts.quiet; later = counts.later; cause = tt }
 counts_backed entries old new (Err error) counts = record { quiet = tt; later = counts.later; cause = counts.cause }
 
@@ -299,10 +294,10 @@ module _ {D : Type 0} (shown : D → Device) where
       → (HasRest shown area → OnOk result (ForSome (device_of shown area).contents (λ files. Shows (IsSame (backed_up files)) target')))
       → (HasRest shown area → ForSome (device_of shown area).contents (λ files. LeavesOnly target target' (IsBackupOf (backed_up files)))) → (HasRest shown area → IfErr result IsFault)
       → (HasDoubt shown area → (result ≡ Err LeftInDoubt) × (target' ≡ target)) → CountsFaults is_target_fault target target' result → TellsAlike target target'
-      → Finishes FinishesAs old (seen old front) target target' (backed_with entries result)
+      → Finishes FinishesAs old (seen old front) target target' (told_backed entries result)
   finishes old front area first entries backing target target' result (InDoubt before after, stands) known grows counted begun live whole crash fault doubt faults alike = record {
     taken = (front, grows, refl);
-    ends = subst (λ (r : Result ℕ BackupError). FinishesAs (seen old front) target' (backed_with entries r)) (sym (none.0)) (doubtful_last (stopped_last front) stands.kind);
+    ends = subst (λ (r : Result ℕ BackupError). FinishesAs (seen old front) target' (told_backed entries r)) (sym (none.0)) (doubtful_last (stopped_last front) stands.kind);
     crash = λ opening is t.
         subst (λ (d : Device). LeavesOnly target d (IsBackup (state_after opening front))) (sym none.1)
         (only_weaken IsUnsigned (IsBackup (state_after opening front)) target target (λ files unsigned. inl (unsigned_refused files unsigned)) (stays_unsigned backing.copier target begun));
@@ -340,7 +335,7 @@ module _ {D : Type 0} (shown : D → Device) where
           (told_gives (device_of shown area).contents _ (stands.told ∙ t) (rest_backup shown area stands.at.0 stands.at.1 target target' (crash rest)))
 
       by : (result : Result ℕ BackupError) → IfOk result (λ live. (texts : List ℕ) → live ≡ live_count (map (slot_state texts) (loaded_of area).slots))
-          → OnOk result (ForSome (device_of shown area).contents (λ files. Shows (IsSame (backed_up files)) target')) → IfErr result IsFault → FinishesAs (seen old front) target' (backed_with entries result)
+          → OnOk result (ForSome (device_of shown area).contents (λ files. Shows (IsSame (backed_up files)) target')) → IfErr result IsFault → FinishesAs (seen old front) target' (told_backed entries result)
       by (Err error) live whole fault = fault_ends (seen old front) target' error fault last
       by (Ok count) live whole fault = record {
         ends = last;

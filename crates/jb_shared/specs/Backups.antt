@@ -55,6 +55,11 @@ TurnsEnd known target (Ok backed) = HasBackedUp known target backed
 TurnsEnd known target (Err InDoubt) = EndsStopped known true
 TurnsEnd known target (Err error) = IsFault error
 
+-- the answer of a last turn, by how many entries the history has then and how many messages are live
+abbrev pub told_backed : ℕ → Result ℕ BackupError → Result Backed BackupError
+told_backed entries (Ok live) = Ok (record { entries = entries; live = live })
+told_backed entries (Err error) = Err error
+
 -- turns that end so: more of the history was taken, and a crash at each moment of them leaves a backup of the state after all of that
 pub record Finishes (end : Known → Device → Result Backed BackupError → Type 0) (old new : Known) (target target_now : Device) (result : Result Backed BackupError) : Type 0 where
   pub taken : HasTaken old new

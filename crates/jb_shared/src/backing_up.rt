@@ -1,5 +1,5 @@
 //! A backup of a shared area in turns of its own, between which the calls of others go on.
-ghost use Rattle.std.specs.Prelude.{◌≡◌, ℕ, List, None, OnOk, Some, length};
+ghost use Rattle.std.specs.Prelude.{◌≡◌, List, None, Some, length};
 ghost use Rattle.jb_model.specs.declared.entry.Entry.{Entry};
 ghost use Rattle.jb_publish.specs.Accounts.{account_of, told_with};
 ghost use Rattle.jb_turn.specs.Rows.{StandsFrom};
@@ -7,7 +7,7 @@ ghost use Rattle.jb_turn.specs.Seats.{HoldsTurn, front, id_of, opening, resting_
 ghost use Rattle.jb_turn.specs.Steps.{given};
 ghost use Rattle.jb_shared.specs.Areas.{IsOf};
 ghost use Rattle.jb_shared.specs.Backing.{CopiesOnto, IsReady};
-ghost use Rattle.jb_shared.specs.Backups.{BacksUp, Finishes, FinishesAs, TurnsEnd};
+ghost use Rattle.jb_shared.specs.Backups.{BacksUp, Finishes, FinishesAs, TurnsEnd, told_backed};
 ghost use Rattle.jb_shared.specs.Histories.{Tells};
 ghost use Rattle.jb_shared.specs.InTurn.{IsBehind, IsOut, IsToldOf};
 ghost use Rattle.jb_shared.specs.Inside.{known_in};
@@ -65,6 +65,14 @@ fn give_back<D: Disk>(
 {
     inform(&held.state.shower, &mut reader);
     put_back(turn, seat, held, reader)
+}
+
+/// The answer of a last turn, by how many entries the history has and how many messages are live.
+fn backed_with(entries: u64, finished: Result<u32, BackupError>) -> Result<Backed, BackupError>
+    ensures { result ≡ told_backed entries finished }
+{
+    let live = finished?;
+    Ok(Backed { entries, live })
 }
 
 impl<D: Disk> SharedArea<D> {
@@ -161,10 +169,7 @@ impl<D: Disk> SharedArea<D> {
         let finished = backing.finish(&mut held.state.area, onto);
         let entries = held.count;
         let parts = give_back(&self.turn, seat, held, reader);
-        match finished {
-            Ok(live) => (parts, Ok(Backed { entries, live })),
-            Err(error) => (parts, Err(error)),
-        }
+        (parts, backed_with(entries, finished))
     }
 
     /// The turns of a backup, with the parts of a pass of this area.
