@@ -14,7 +14,7 @@ pub enum RunError {
     Settings(ConfError),
     /// The area at this place of the settings, counted from 1, is refused for what its files hold, or its disk failed.
     Area { place: u32, error: OpeningError },
-    /// The host has no such settings file, or no disk for an area.
+    /// The host has no such settings file, or no disk for an area or for its backup.
     HostFault,
     /// The allocator gave no memory.
     OutOfMemory,

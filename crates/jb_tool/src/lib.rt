@@ -4,7 +4,8 @@
 //! journal, if one does. Then it prints what `tool_outcome` says of the area to which the base opens, and leaves the area that
 //! it says. [`list`] and [`check`] leave the one that was there, and write nothing more. [`relink`] and [`pack`] have a command
 //! done, as the sysop, and print its reply. Each takes the disk and hands it back. A crash at any moment leaves what opens as
-//! before the call, or to the area that the tool leaves.
+//! before the call, or to the area that the tool leaves. [`backup`] copies the area that opens onto the empty disk of its backup,
+//! and leaves it as it opens; a crash leaves that disk refused, or the whole backup.
 //!
 //! The workload of `load` is a stated list of commands of one user over an empty base (`load_run`), each done through the
 //! journal, and eleven lines about the last area of that run and the replies that were counted, which are read off the area as it
