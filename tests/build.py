@@ -5,7 +5,7 @@ sources do not build.
 usage: build.py
 
 A copy of what the program is made of is run as it stands, then with another definition and another proof, which are in no byte of it, then
-with a wrong body in the lowest crate, which is one of the edits that the gate wants refused, then without the kit, then stopped while it
+with a wrong body in the lowest crate, which is one of the edits that a contract refuses, then without the kit, then stopped while it
 proves, then as it stood at first, and at last with another sum beside the kept program, so that it is built. What the kit kept of the crates
 is used; where it kept nothing no whole build is tried, and a line says so.
 """
@@ -22,7 +22,7 @@ import time
 from harness import TOP, Trial
 
 # of a crate that uses no other, so that nothing has to be proved before it is refused
-EDIT = "crates/jb_bytes/must-fail/reads_the_highest_byte_first.edit"
+EDIT = "crates/jb_bytes/wrong/reads_the_highest_byte_first.edit"
 CRATE = EDIT.split("/")[1]
 LIMIT = 3000
 # in the environment of a build, so that its processes are found
