@@ -7,7 +7,8 @@ usage: build.py
 A copy of what the program is made of is run as it stands, then with another definition and another proof, which are in no byte of it, then
 with a wrong body in the lowest crate, which is one of the edits that a contract refuses, then without the kit, then stopped while it
 proves, then as it stood at first, and at last with another sum beside the kept program, so that it is built. What the kit kept of the crates
-is used; where it kept nothing no whole build is tried, and a line says so.
+is used; where it kept nothing no whole build is tried, and a line says so. And `.ci/try_program` has to run a changed text before its proof, which
+takes most of a minute, and to leave what `./board` runs as it is.
 """
 import glob
 import os
@@ -19,7 +20,7 @@ import sys
 import tempfile
 import time
 
-from harness import TOP, Trial
+from harness import TOP, WORDS, Trial
 
 # of a crate that uses no other, so that nothing has to be proved before it is refused
 EDIT = "crates/jb_bytes/wrong/reads_the_highest_byte_first.edit"
@@ -28,6 +29,9 @@ LIMIT = 3000
 # in the environment of a build, so that its processes are found
 MARK = "BOARD_TRIED_IN"
 NOT_BUILT = 70
+# the file with the texts, what parts the names in a list there and in a copy of it, and a line that does not compile
+TEXTS, PARTS, PARTS_IN_COPY, NO_CODE = "crates/jb_text/src/lines.rt", 'b" > "', 'b" => "', 'fn a_number() -> u8 { "a text" }\n'
+UNPROVED = "board: UNPROVED: built from the sources as they stand, for a look before their proof"
 # said of the first crate where nothing was kept of any
 NONE_IS_KEPT = re.compile(r"board: 1 of \d+: \w+ is proved ")
 
@@ -131,6 +135,43 @@ class Copy(Trial):
         self.builds_nothing("no kit", status, printed, told)
         self.is_so("no kit", told[-1:], ["board: the command rt of the Rattle kit was not found, and the program is not built without it"])
 
+    def tries(self, *words, **environment):
+        """A run of the program that is tried, in the folder with the base of the program's own run."""
+        return subprocess.Popen([f"{self.folder}/.ci/try_program", *words], cwd=f"{self.folder}/crates/board/data", stdin=subprocess.DEVNULL,
+                                stdout=subprocess.PIPE, stderr=subprocess.PIPE, text=True, env=os.environ | environment)
+
+    def has_tried(self, what, run, status, wanted, *told):
+        """How a run of it ends, what it printed, and the last lines that it said."""
+        printed, said = run.communicate(timeout=LIMIT)
+        self.is_so(f"tried, {what}", (run.returncode, printed, said.splitlines()[-len(told):]), (status, wanted, [*told]))
+
+    def builds_none_to_try(self, path):
+        """Where it can keep none, and where there is no kit."""
+        place = f"{self.folder}/.ci/out"
+        put(place, "")
+        told = f"board: nothing can be written in {place}, where the program that is tried is kept, so none was built"
+        self.has_tried("no place", self.tries("help"), NOT_BUILT, "", told)
+        os.remove(place)
+        told = "board: the command rt of the Rattle kit was not found, and the program is not built without it"
+        self.has_tried("no kit", self.tries("help", PATH=path), NOT_BUILT, "", told)
+
+    def tries_unproved(self):
+        """A changed text is seen in what it prints, and one that comes while it is built, and does not compile, is told with its place."""
+        path = f"{self.folder}/{TEXTS}"
+        with open(path) as file:
+            text = file.read()
+        put(path, text.replace(PARTS, PARTS_IN_COPY))
+        run = self.tries("list", ".", "general")
+        # by that line it has taken its copy of the sources
+        self.is_so("tried, what is said first", run.stderr.readline(), "board: building the sources as they stand\n")
+        put(path, text + NO_CODE)
+        place = f'{TEXTS}:{text.count(chr(10)) + 1}:{NO_CODE.index(chr(34)) + 1}: error[mismatched-types]: expected `u8`, found `&str`'
+        self.has_tried("no code", self.tries("help"), NOT_BUILT, "", place, "board: the sources do not compile, so there is no program to try")
+        self.has_tried("another text", run, 0, "       1  Test => Hello  abc\n", UNPROVED)
+        put(path, text.replace(PARTS, PARTS_IN_COPY))
+        self.has_tried("no such words", self.tries("sing"), 1, "fault 1 Words\n", UNPROVED, f"board: {WORDS['1 Words']}")
+        put(path, text)
+
     def is_stopped(self):
         """Interrupted while it proves, as by ^C, it leaves nothing at work and no file. The shell that it is ends by the signal."""
         run, told = self.starts(**{MARK: self.folder}), []
@@ -178,9 +219,12 @@ def main():
         trial.holds(f"{EDIT} changes something", right != wrong)
         trial.serves("at first", wanted)
         trial.proves_otherwise(wanted)
+        without_kit = path_without("rt", f"{room}/path")
+        trial.builds_none_to_try(without_kit)
+        trial.tries_unproved()
         put(path, wrong)
         trial.refuses()
-        trial.lacks_the_kit(path_without("rt", f"{room}/path"))
+        trial.lacks_the_kit(without_kit)
         trial.is_stopped()
         put(path, right)
         trial.serves("as it stood again", wanted)
