@@ -9,13 +9,14 @@ use Rattle.jb_bytes.specs.declared.subfield.TheConstants.{MSGID, REPLYID}
 use Rattle.jb_state.specs.Plan.{loaded_at}
 use Rattle.jb_state.specs.LiveSlots.{IsLive, linkables, loaded_linkable, message_in}
 use Rattle.jb_link.proofs.LiveLemmas.{live_from_stands, stands_from_live}
-use Rattle.jb_state.specs.Links.{IsGreatest, IsLeast, Linkable, is_answered_by, is_id, is_kept_by, is_reply_to, last_reply_of, number_or_0, parent_for, parent_of}
+use Rattle.jb_state.specs.Links.{IsGreatest, IsLeast, Linkable, is_answered_by, is_id, is_kept_by, is_reply_to, last_reply_of, number_or_0, parent_at, parent_for, parent_of}
 use Rattle.jb_state.specs.Message.{msgid_of, replyid_of}
 use Rattle.jb_state.specs.State.{state_of}
 use Rattle.jb_state.specs.declared.loaded.Loaded.{Loaded}
 use Rattle.jb_state.specs.declared.loaded.LoadedMessage.{LoadedMessage}
 use Rattle.jb_state.specs.declared.loaded.LoadedSlot.TheVariants.{Live}
 use Rattle.jb_state.proofs.LinkLaws.{found_is_least, last_is_greatest, linkables_rise}
+use Rattle.jb_state.proofs.ThreadLaws.{parent_at_is_lower}
 use Rattle.jb_link.proofs.AreaLemmas.{by_place, listed_named, named_is_in, named_listed, some_named}
 use Rattle.jb_link.proofs.IdListLemmas.{bytes_had, has_bytes, known, live_with}
 use Rattle.jb_link.proofs.KeptLemmas.{none_there}
@@ -165,6 +166,14 @@ live_from_base loaded number live = let named = live_named loaded number live in
 -- and it is below the end
 pub live_below_end : (loaded : Loaded) (number : ℕ) → IsLive loaded number → number < loaded.base + length loaded.slots
 live_below_end loaded number live = let named = live_named loaded number live in (named_is_in loaded number named.0 named.1).high
+
+-- the parent of a number is 0, or a number of the area below it
+pub parent_in_area : (loaded : Loaded) (number parent : ℕ) → parent ≡ parent_at (linkables [] loaded) number → (parent ≡ 0) ⊎ IsLive loaded parent
+    → (parent ≡ 0) ⊎ ((loaded.base ≤ parent) × (parent < number))
+parent_in_area loaded number parent is (inl none) = inl none
+parent_in_area loaded number parent is (inr live) =
+    let from = live_from_base loaded parent live in
+    elim (parent_at_is_lower (linkables [] loaded) number) [ inl none ↦ inl (is ∙ none) | inr below ↦ inr (from, omega (arith, is, below)) ]
 
 -- the REPLYID of a message that has one
 id_there : (found : Option (List ℕ)) → is_some found ≡ true → (id : List ℕ) × (found ≡ Some id)

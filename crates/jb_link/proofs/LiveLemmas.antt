@@ -1,19 +1,16 @@
 -- What finding among the live messages of slots gives.
-use Rattle.std.proofs.Common.{◌≡◌, ℕ, zero, suc, ◌+◌, ◌-◌, ◌<◌, ◌≤◌, nat_lt, Bool, true, false, ◌&&◌, ◌==◌, cond, not, ◌⊎◌, inl, inr, slice_get, ltb-true, ltb-false, List, [], ◌∷◌, ◌++◌, Option, Some, None, find, map, length, take, position, refl, sym, ◌∙◌, ap, arith, add-zero, lt-ltb, le-ltb, ne_eqb, eq-eqb}
-use Rattle.std.specs.List.{position_or_len}
-use Rattle.std.proofs.lemmas.Bool.Decides.{nat_tests}
+use Rattle.std.proofs.Common.{◌≡◌, ℕ, zero, suc, ◌+◌, ◌-◌, ◌<◌, ◌≤◌, nat_lt, Bool, true, false, ◌&&◌, ◌==◌, cond, ◌⊎◌, inl, inr, slice_get, ltb-true, ltb-false, List, [], ◌∷◌, ◌++◌, Option, Some, None, find, map, length, take, refl, sym, ◌∙◌, ap, arith, add-zero, lt-ltb, le-ltb, ne_eqb, eq-eqb}
 use Rattle.std.proofs.lemmas.Bool.{false≢true}
 use Rattle.std.proofs.lemmas.Option.{slice_get-map}
 use Rattle.std.specs.Option.{is_some, option_map}
-use Rattle.jb_state.specs.Links.{Linkable, is_id, linkable, number_or_0, parent_for}
-use Rattle.jb_state.specs.Message.{msgid_of}
+use Rattle.jb_state.specs.Links.{Linkable, linkable, number_or_0}
 use Rattle.jb_state.specs.Live.{live_from, live_of, message_at}
 use Rattle.jb_state.specs.State.{slot_state, state_of}
 use Rattle.jb_state.specs.declared.loaded.Loaded.{Loaded}
 use Rattle.jb_state.specs.declared.loaded.LoadedMessage.{LoadedMessage}
 use Rattle.jb_state.specs.declared.loaded.LoadedSlot.{LoadedSlot}
 use Rattle.jb_state.specs.declared.loaded.LoadedSlot.TheVariants.{Empty, Killed, Live}
-use Rattle.jb_state.specs.LiveSlots.{IsLive, is_live_and, linkables_from, loaded_linkable, message_in}
+use Rattle.jb_state.specs.LiveSlots.{IsLive, linkables_from, loaded_linkable, message_in}
 
 -- no text bears on the links
 pub linkables_with_texts : (texts : List ℕ) (number : ℕ) (slots : List LoadedSlot) → map linkable (live_from number (map (slot_state texts) slots)) ≡ linkables_from number slots
@@ -55,30 +52,6 @@ find_below r (suc k) number m (Killed at ∷ slots) e = find_below r k (number +
 find_below r (suc k) number m (Live message ∷ slots) e =
     let t : nat_lt number m ≡ true = lt-ltb number m (omega arith) in
     rw t (ap (λ rest. cond (r (loaded_linkable number message)) (Some (loaded_linkable number message)) rest) (find_below r k (number + 1) m slots (omega arith)))
-
--- one more slot in front moves a place by one
-shifted : (n a l : ℕ) → cond (nat_lt a l) (n + 1 + a) 0 ≡ cond (nat_lt (1 + a) (suc l)) (n + (1 + a)) 0
-shifted n a l = grind (arith, nat_tests)
-
--- a live message in front is the first that passes where it passes
-live_step : (one : Linkable) (found : Option Linkable) (b : Bool) (n a l : ℕ) → one.number ≡ n → number_or_0 found ≡ cond (nat_lt a l) (n + 1 + a) 0
-    → number_or_0 (cond b (Some one) found) ≡ cond (nat_lt (cond (not b) (1 + a) 0) (suc l)) (n + cond (not b) (1 + a) 0) 0
-live_step one found true n a l e h =
-    let first : n ≡ cond (nat_lt 0 (suc l)) (n + 0) 0 = grind (arith, nat_tests) in
-    e ∙ first
-live_step one found false n a l e h = h ∙ shifted n a l
-
--- the number of the first that passes, by its place
-pub found_at : (test : LoadedMessage → Bool) (r : Linkable → Bool) (same : (n : ℕ) (message : LoadedMessage) → r (loaded_linkable n message) ≡ test message)
-    (number : ℕ) (slots : List LoadedSlot)
-    → number_or_0 (find r (linkables_from number slots)) ≡ cond (nat_lt (position_or_len (is_live_and test) slots) (length slots)) (number + position_or_len (is_live_and test) slots) 0
-found_at test r same number [] = refl
-found_at test r same number (Empty ∷ slots) = found_at test r same (number + 1) slots ∙ shifted number (position_or_len (is_live_and test) slots) (length slots)
-found_at test r same number (Killed at ∷ slots) = found_at test r same (number + 1) slots ∙ shifted number (position_or_len (is_live_and test) slots) (length slots)
-found_at test r same number (Live message ∷ slots) =
-    rw (same number message)
-    (live_step (loaded_linkable number message) (find r (linkables_from (number + 1) slots)) (test message) number
-    (position_or_len (is_live_and test) slots) (length slots) refl (found_at test r same (number + 1) slots))
 
 -- the live message of a slot with this number, where it has one
 abbrev pub linkable_in : ℕ → Option LoadedSlot → Option Linkable
@@ -184,26 +157,6 @@ live_from_stands loaded number h =
     let place : number - loaded.base ≡ h.place = omega arith in
     sym (live_at_place [] loaded number (omega arith)) ∙ rw place (ap (λ slot. is_some (message_in slot)) h.at)
 
--- what is found among the first slots is live
-pub found_live : (loaded : Loaded) (f : Linkable → Bool) (result k : ℕ) (slots : List LoadedSlot) → slots ≡ loaded.slots
-    → result ≡ number_or_0 (find f (linkables_from loaded.base (take k slots))) → (result ≡ 0) ⊎ IsLive loaded result
-found_live loaded f result k slots same is =
-    elim (found_stands f loaded.base (take k slots)) [
-      | inl none ↦ inl (is ∙ none)
-      | inr h ↦ inr (live_from_stands loaded result (record {
-        place = h.place;
-        message = h.message;
-        numbered = is ∙ h.numbered;
-        at = ap (λ xs. slice_get xs h.place) (sym same) ∙ slice_get_of_take k slots h.place (Live h.message) h.at;
-      }))
-    ]
-  where
-    slice_get_of_take : (k : ℕ) (slots : List LoadedSlot) (j : ℕ) (slot : LoadedSlot) → slice_get (take k slots) j ≡ Some slot → slice_get slots j ≡ Some slot
-    slice_get_of_take zero slots j slot h = cc
-    slice_get_of_take (suc k) [] j slot h = h
-    slice_get_of_take (suc k) (x ∷ slots) zero slot h = h
-    slice_get_of_take (suc k) (x ∷ slots) (suc j) slot h = slice_get_of_take k slots j slot h
-
 -- what is live stands at a place
 pub stands_from_live : (loaded : Loaded) (number : ℕ) → IsLive loaded number → StandsAt loaded.base number loaded.slots
 stands_from_live loaded number h = by_order (nat_lt number loaded.base) refl
@@ -219,43 +172,3 @@ stands_from_live loaded number h = by_order (nat_lt number loaded.base) refl
     by_order false t =
         let from : loaded.base ≤ number = ltb-false number loaded.base t in
         message_there (slice_get loaded.slots (number - loaded.base)) refl (live_at_place [] loaded number from ∙ h) from
-
--- the number at a place, or 0
-abbrev pub number_at : ℕ → Option ℕ → ℕ
-number_at number None = 0
-number_at number (Some place) = number + place
-
--- the number of the first that passes stands at its place
-pub number_at_position : (test : LoadedMessage → Bool) (r : Linkable → Bool) (same : (n : ℕ) (message : LoadedMessage) → r (loaded_linkable n message) ≡ test message)
-    (number : ℕ) (slots : List LoadedSlot) → number_at number (position (is_live_and test) slots) ≡ number_or_0 (find r (linkables_from number slots))
-number_at_position test r same number slots =
-    sym (found_at test r same number slots ∙ chosen (nat_lt (position_or_len (is_live_and test) slots) (length slots)) number (position_or_len (is_live_and test) slots))
-  where
-    chosen : (b : Bool) (n i : ℕ) → cond b (n + i) 0 ≡ number_at n (cond b (Some i) None)
-    chosen true n i = refl
-    chosen false n i = refl
-
--- the lowest number with an id, by its place
-pub lowest_at_place : (id : List ℕ) (number : ℕ) (slots : List LoadedSlot) (place : Option ℕ)
-    → place ≡ position (is_live_and (λ message. is_id id (msgid_of message.subfields))) slots
-    → number_at number place ≡ number_or_0 (find (λ one. is_id id one.msgid) (linkables_from number slots))
-lowest_at_place id number slots place e =
-    ap (number_at number) e ∙ number_at_position (λ message. is_id id (msgid_of message.subfields)) (λ one. is_id id one.msgid) (λ n message. refl) number slots
-
--- the parent by an id is the lowest among the slots below
-pub parent_with_id : (id : List ℕ) (texts : List ℕ) (k number m kept result : ℕ) (slots below : List LoadedSlot) → m ≡ number + k → below ≡ take k slots
-    → result ≡ number_or_0 (find (λ one. is_id id one.msgid) (linkables_from number below))
-    → result ≡ parent_for (map linkable (live_from number (map (slot_state texts) slots))) m (Some id) kept
-parent_with_id id texts k number m kept result slots below e part found =
-    found ∙ ap (λ rest. number_or_0 (find (λ one. is_id id one.msgid) (linkables_from number rest))) part
-    ∙ ap number_or_0 (sym (find_below (λ one. is_id id one.msgid) k number m slots e))
-    ∙ ap (λ live. parent_for live m (Some id) kept) (sym (linkables_with_texts texts number slots))
-
--- the parent without an id is the kept one among the slots below
-pub parent_as_kept : (texts : List ℕ) (k number m kept result : ℕ) (slots below : List LoadedSlot) → m ≡ number + k → below ≡ take k slots
-    → result ≡ number_or_0 (find (λ one. one.number == kept) (linkables_from number below))
-    → result ≡ parent_for (map linkable (live_from number (map (slot_state texts) slots))) m None kept
-parent_as_kept texts k number m kept result slots below e part found =
-    found ∙ ap (λ rest. number_or_0 (find (λ one. one.number == kept) (linkables_from number rest))) part
-    ∙ ap number_or_0 (sym (find_below (λ one. one.number == kept) k number m slots e))
-    ∙ ap (λ live. parent_for live m None kept) (sym (linkables_with_texts texts number slots))

@@ -1,18 +1,22 @@
 -- The parents of messages by their places, and the ids that are met on the way.
-use Rattle.std.proofs.Common.{◌≡◌, ℕ, ◌+◌, ◌<◌, ◌≤◌, Bool, true, false, ◌&&◌, ◌==◌, cond, List, [], ◌∷◌, ◌++◌, Option, Some, None, find, length, take, slice_get, get_or, length-take, refl, sym, ◌∙◌, ap, arith, ne_eqb}
+use Rattle.std.proofs.Common.{◌≡◌, inl, inr, ℕ, ◌+◌, ◌-◌, ◌<◌, ◌≤◌, Bool, true, false, ◌&&◌, ◌==◌, cond, List, [], ◌∷◌, ◌++◌, Option, Some, None, find, length, take, slice_get, get_or, length-take, refl, sym, ◌∙◌, ap, arith, ne_eqb}
+use Rattle.std.proofs.lemmas.Bool.{cases_lt}
 use Rattle.std.proofs.lemmas.Grind.{common_steps, take_at_read}
 use Rattle.std.proofs.lemmas.List.Folds.{find-append}
 use Rattle.std.proofs.lemmas.Option.{get_or_from_slice_get, slice_get-get_or}
-use Rattle.std.specs.Option.{option_or}
+use Rattle.std.specs.Option.{option_map, option_or}
 use Rattle.jb_state.specs.Links.{Linkable, is_id, number_or_0, parent_at, parent_for, parent_of, parent_or_0}
 use Rattle.jb_state.specs.Message.{msgid_of, replyid_of}
+use Rattle.jb_state.specs.Plan.{loaded_at}
+use Rattle.jb_state.specs.declared.loaded.Loaded.{Loaded}
 use Rattle.jb_state.specs.declared.loaded.LoadedMessage.{LoadedMessage}
 use Rattle.jb_state.specs.declared.loaded.LoadedSlot.{LoadedSlot}
 use Rattle.jb_state.specs.declared.loaded.LoadedSlot.TheVariants.{Empty, Killed, Live}
 use Rattle.jb_link.specs.Ids.{HasLowest, KeepsLowest}
 use Rattle.jb_link.specs.Parents.{AreParents}
-use Rattle.jb_state.specs.LiveSlots.{linkables_from, loaded_linkable, msgid_in}
-use Rattle.jb_link.proofs.LiveLemmas.{find_below, find_numbered, linkable_in, linkables_from-append}
+use Rattle.jb_state.specs.LiveSlots.{linkables, linkables_from, loaded_linkable, message_in, msgid_in}
+use Rattle.jb_link.proofs.AreaLemmas.{below_base, by_place}
+use Rattle.jb_link.proofs.LiveLemmas.{find_below, find_numbered, linkable_in, linkables_from-append, none_numbered}
 use Rattle.jb_link.proofs.RangeLemmas.{found_from}
 
 -- the parent at a place without a live message is 0
@@ -26,6 +30,28 @@ parent_of_no_message base k slots (Live message) at other = absurd (other messag
 pub parent_of_message : (base k : ℕ) (slots : List LoadedSlot) (message : LoadedMessage) → slice_get slots k ≡ Some (Live message)
     → parent_at (linkables_from base slots) (base + k) ≡ parent_of (linkables_from base slots) (loaded_linkable (base + k) message)
 parent_of_message base k slots message at = ap (parent_or_0 (linkables_from base slots)) (find_numbered k base (base + k) slots refl ∙ ap (linkable_in (base + k)) at)
+
+-- what is found by a number is the message that it names
+found_named : (loaded : Loaded) (number : ℕ) → find (λ one. one.number == number) (linkables [] loaded) ≡ option_map (loaded_linkable number) (loaded_at loaded number)
+found_named loaded number =
+    elim (cases_lt number loaded.base) [
+      | inl below ↦ none_numbered number loaded.base loaded.slots below ∙ sym (ap (option_map (loaded_linkable number)) (below_base loaded number below))
+      | inr from ↦
+          find_numbered (number - loaded.base) loaded.base number loaded.slots (omega arith) ∙ as_named (slice_get loaded.slots (number - loaded.base))
+          ∙ sym (ap (option_map (loaded_linkable number)) (by_place loaded number from))
+    ]
+  where
+    as_named : (slot : Option LoadedSlot) → linkable_in number slot ≡ option_map (loaded_linkable number) (message_in slot)
+    as_named None = refl
+    as_named (Some Empty) = refl
+    as_named (Some (Killed header_at)) = refl
+    as_named (Some (Live message)) = refl
+
+-- so the parent of a number is that of the message
+pub parent_of_named : (loaded : Loaded) (number : ℕ) (found : Option LoadedMessage) → found ≡ loaded_at loaded number
+    → parent_or_0 (linkables [] loaded) (option_map (loaded_linkable number) found) ≡ parent_at (linkables [] loaded) number
+parent_of_named loaded number found is =
+    ap (λ one. parent_or_0 (linkables [] loaded) (option_map (loaded_linkable number) one)) is ∙ sym (ap (parent_or_0 (linkables [] loaded)) (found_named loaded number))
 
 -- with a REPLYID it is the lowest with that id below
 pub parent_by_lowest : (base k result : ℕ) (slots : List LoadedSlot) (message : LoadedMessage) (numbers : List ℕ → ℕ) (id : List ℕ)

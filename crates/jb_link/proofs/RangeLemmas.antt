@@ -1,7 +1,5 @@
 -- The live messages of slots have numbers from that of the first slot on, and below that behind the last.
-use Rattle.std.proofs.Common.{◌≡◌, ℕ, suc, ◌+◌, ◌-◌, ◌<◌, ◌≤◌, ◌⊎◌, inl, inr, nat_lt, Bool, true, false, ◌&&◌, cond, List, [], ◌∷◌, ◌++◌, reverse, Option, Some, None, find, length, refl, sym, ◌∙◌, ap, arith, ltb-true}
-use Rattle.std.proofs.lemmas.List.{reverse-append}
-use Rattle.std.proofs.lemmas.List.Folds.{find-append}
+use Rattle.std.proofs.Common.{◌≡◌, ℕ, suc, ◌+◌, ◌-◌, ◌<◌, ◌≤◌, ◌⊎◌, inl, inr, nat_lt, Bool, true, false, ◌&&◌, cond, List, [], ◌∷◌, Option, Some, None, find, length, refl, ap, arith, ltb-true}
 use Rattle.std.specs.Option.{option_or}
 use Rattle.jb_state.specs.Links.{Linkable, number_or_0}
 use Rattle.jb_state.specs.declared.loaded.LoadedSlot.{LoadedSlot}
@@ -28,24 +26,6 @@ same_found f g number (Live message ∷ slots) same =
     rw (same (loaded_linkable number message) (omega arith) (omega arith))
     (ap (λ rest. cond (g (loaded_linkable number message)) (Some (loaded_linkable number message)) rest)
     (same_found f g (number + 1) slots (λ one from to. same one (omega arith) (omega arith))))
-
--- they also find the same from the end
-pub same_found_back : (f g : Linkable → Bool) (number : ℕ) (slots : List LoadedSlot)
-    → ((one : Linkable) → number ≤ one.number → one.number < number + length slots → f one ≡ g one)
-    → find f (reverse (linkables_from number slots)) ≡ find g (reverse (linkables_from number slots))
-same_found_back f g number [] same = refl
-same_found_back f g number (Empty ∷ slots) same = same_found_back f g (number + 1) slots (λ one from to. same one (omega arith) (omega arith))
-same_found_back f g number (Killed at ∷ slots) same = same_found_back f g (number + 1) slots (λ one from to. same one (omega arith) (omega arith))
-same_found_back f g number (Live message ∷ slots) same =
-    let back : reverse (linkables_from number (Live message ∷ slots)) ≡ reverse (linkables_from (number + 1) slots) ++ loaded_linkable number message ∷ []
-    = reverse-append (loaded_linkable number message ∷ []) (linkables_from (number + 1) slots) in
-    let rest : find f (reverse (linkables_from (number + 1) slots)) ≡ find g (reverse (linkables_from (number + 1) slots))
-    = same_found_back f g (number + 1) slots (λ one from to. same one (omega arith) (omega arith)) in
-    ap (find f) back ∙ find-append f (reverse (linkables_from (number + 1) slots)) (loaded_linkable number message ∷ [])
-    ∙ ap (λ found. option_or found (find f (loaded_linkable number message ∷ []))) rest
-    ∙ ap (λ (b : Bool). option_or (find g (reverse (linkables_from (number + 1) slots))) (cond b (Some (loaded_linkable number message)) None)) (same (loaded_linkable number message) (omega arith) (omega arith))
-    ∙ sym (find-append g (reverse (linkables_from (number + 1) slots)) (loaded_linkable number message ∷ []))
-    ∙ sym (ap (find g) back)
 
 -- where no test passes none is found
 pub never_found : (live : List Linkable) → find (λ _. false) live ≡ None

@@ -1,11 +1,14 @@
 //! The message that a number names, and its ids.
-ghost use Rattle.std.specs.Prelude.{◌≡◌, ◌-◌, ◌≤◌, IfSome, option_map};
+ghost use Rattle.std.specs.Prelude.{◌≡◌, ◌↔◌, ◌-◌, ◌≤◌, ℕ, IsTrue, List, IfSome, is_some, option_map};
 ghost use Rattle.std.specs.Borrow.{Bor};
 ghost use Rattle.jb_link.specs.Ids.{lent};
 ghost use Rattle.jb_link.specs.IdLists.{id_at};
 ghost use Rattle.jb_link.specs.Parents.{copied_msgid};
 ghost use Rattle.jb_state.specs.Plan.{loaded_at};
+ghost use Rattle.jb_state.specs.Live.{message_at};
+ghost use Rattle.jb_state.specs.LiveSlots.{IsLive};
 ghost use Rattle.jb_state.specs.Loaded.{IsMessageAt};
+ghost use Rattle.jb_state.specs.State.{state_of};
 
 use jb_base::{MOST_COPIED_MSGID_BYTES, MSGID};
 use jb_state::{Loaded, LoadedMessage, LoadedSlot};
@@ -23,6 +26,14 @@ pub fn message_at(loaded: &Loaded, number: u32) -> Option<&LoadedMessage>
         Some(LoadedSlot::Live(message)) => Some(message),
         _ => None,
     }
+}
+
+/// Whether the number names a live message.
+pub fn is_live(loaded: &Loaded, number: u32) -> bool
+    ensures told { (texts : List ℕ) → result ≡ is_some (message_at (state_of texts loaded.now) number) }
+    ensures live { IsTrue result ↔ IsLive loaded.now number }
+{
+    message_at(loaded, number).is_some()
 }
 
 /// The first subfield of this kind of the live message that a number names.

@@ -5,7 +5,7 @@ ghost use Rattle.jb_link.specs.Ids.{IsNumberedNow, IsSettled, at_seat, hash_of, 
 
 use crate::id::{hash_of, is_id};
 use crate::others::Others;
-use crate::scan::msgid_at;
+use crate::slots::msgid_at;
 use jb_base::OutOfMemory;
 use jb_state::LoadedSlot;
 use std::alloc::Global;

@@ -6,7 +6,7 @@ ghost use Rattle.jb_state.specs.LiveSlots.{linkables_from};
 ghost use Rattle.jb_link.specs.Parents.{AreParents};
 
 use crate::ids::Ids;
-use crate::scan::{msgid_in, number_if_live};
+use crate::slots::{msgid_in, number_if_live};
 use jb_base::{OutOfMemory, REPLYID};
 use jb_state::LoadedSlot;
 use std::alloc::Global;

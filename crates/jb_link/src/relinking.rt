@@ -5,7 +5,7 @@ ghost use Rattle.jb_state.specs.Plan.{plan_of};
 ghost use Rattle.jb_state.specs.LiveSlots.{linkables, linkables_from};
 
 use crate::parents::parents_by_place;
-use crate::scan::is_live_slot;
+use crate::slots::is_live_slot;
 use jb_base::OutOfMemory;
 use jb_state::{Links, Loaded, LoadedSlot, Plan};
 use std::alloc::Global;

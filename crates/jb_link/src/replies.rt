@@ -4,7 +4,7 @@ ghost use Rattle.jb_bytes.specs.declared.subfield.TheConstants.{MSGID};
 ghost use Rattle.jb_link.specs.Ids.{lent};
 ghost use Rattle.jb_state.specs.LiveSlots.{IsLive, linkables};
 ghost use Rattle.jb_link.specs.Splice.{IsSplice, spliced};
-ghost use Rattle.jb_state.specs.Links.{last_reply_of, parent_for};
+ghost use Rattle.jb_state.specs.Links.{last_reply_of, parent_at, parent_for};
 ghost use Rattle.jb_state.specs.State.{state_of};
 ghost use Rattle.jb_state.specs.declared.loaded.Loaded.{Loaded};
 ghost use Rattle.jb_link.specs.IdLists.{IsIdList};
@@ -12,11 +12,13 @@ ghost use Rattle.jb_link.specs.Index.{HasSameLists, IsIndexOf};
 ghost use Rattle.jb_link.specs.IndexLaws.{IsIndexAfterKill, IsIndexBefore};
 ghost use Rattle.jb_link.specs.Orphans.{orphans_of};
 ghost use Rattle.jb_link.specs.Replied.{IsLastReply};
+ghost use Rattle.jb_link.specs.Thread.{thread_of};
 
 use crate::found::{id_at, message_at};
 use crate::orphans::{Orphan, put_by_id, put_by_number};
 use crate::splicing::Spliced;
-use crate::{id_lists, kept, keys};
+use crate::threads::{numbers_with_root, roots_by_place};
+use crate::{Numbers, id_lists, kept, keys};
 use jb_base::{MSGID, OutOfMemory, REPLYID};
 use jb_state::Loaded;
 use jb_tiered::Tiered;
@@ -91,7 +93,8 @@ impl Replies {
     }
 
     /// The parent of a live message with this number, this first REPLYID and this ReplyTo in its header, or 0 where it
-    /// has none, as `jb_link::parent` says. One search at most.
+    /// has none. With a REPLYID it is the lowest live lower-numbered message whose first MSGID has the same bytes, without
+    /// one the kept number, where that is live and lower (JAM, "Reply linking"). One search at most.
     pub fn parent(&self, loaded: &Loaded, number: u32, reply: Option<&[u8]>, kept: u32) -> u32
         requires { IsIndexOf self.now loaded.now }
         ensures found { (texts : List ℕ)
@@ -104,8 +107,7 @@ impl Replies {
         }
     }
 
-    /// The header that one more reply to `parent` changes, as `jb_link::splice` says; 0 is no parent. Three searches at
-    /// most.
+    /// The header that one more reply to `parent` changes beside its own; 0 is no parent. Three searches at most.
     pub fn splice(&self, loaded: &Loaded, parent: u32) -> Spliced
         requires index { IsIndexOf self.now loaded.now }
         requires base { 1 ≤ loaded.now.base }
@@ -167,6 +169,45 @@ impl Replies {
         ensures { IsLastReply is_none loaded.now parent result }
     {
         kept::last_with(&self.kept, parent).unwrap_or(0)
+    }
+
+    /// The live numbers whose thread begins with the same message as that of `number`, in rising order. Its cost is that of a
+    /// search for each slot.
+    pub fn thread(
+        &self,
+        alloc: Global,
+        loaded: &Loaded,
+        number: u32,
+    ) -> Result<Numbers, OutOfMemory>
+        requires index { IsIndexOf self.now loaded.now }
+        requires base { 1 ≤ loaded.now.base }
+        requires numbers { loaded.now.base + length loaded.now.slots ≤ 4_294_967_295 }
+        requires live { IsLive loaded.now number }
+        ensures { (texts : List ℕ) → IfOk result (λ numbers.
+            numbers ≡ thread_of (linkables texts loaded.now) number) }
+    {
+        let roots = roots_by_place(alloc, self, loaded)?;
+        let root = roots[(number - loaded.base) as usize];
+        let slots = loaded.slots.as_slice();
+        let numbers = numbers_with_root(alloc, loaded.base, slots, roots.as_slice(), root)?;
+        Ok(Numbers::from(numbers))
+    }
+
+    /// The parent of the live message with this number, or 0 where there is none. One search at most.
+    pub(crate) fn parent_at(&self, loaded: &Loaded, number: u32) -> u32
+        requires { IsIndexOf self.now loaded.now }
+        ensures found { result ≡ parent_at (linkables [] loaded.now) number }
+        ensures below { (result ≡ 0) ⊎ (loaded.now.base ≤ result) × (result < number) }
+    {
+        match message_at(loaded, number) {
+            Some(message) => self.parent(
+                loaded,
+                number,
+                message.subfields.first(REPLYID),
+                message.head.reply_to,
+            ),
+            None => 0,
+        }
     }
 
     /// The live messages whose parent is this live message, in rising order of their numbers, each with the parent that it has

@@ -1,7 +1,7 @@
 //! The thread of a message, in an area of which each message keeps the number two before its own as its parent.
 
 use jb_base::Subfields;
-use jb_link::{is_live, thread};
+use jb_link::{Replies, is_live};
 use jb_state::{Head, Loaded, LoadedMarks, LoadedMessage, LoadedSlot, LoadedSlots};
 use std::alloc::Global;
 use trial_rows::{Row, Words};
@@ -68,7 +68,10 @@ fn put_numbers(loaded: &Loaded, row: &Row, words: &mut Words) {
     if loaded.base != 1 || loaded.slots.as_slice().len() > 255 || !is_live(loaded, number) {
         return words.unknown(2);
     }
-    match thread(words.alloc, loaded, number) {
+    let Ok(replies) = Replies::of(words.alloc, loaded) else {
+        return words.lack();
+    };
+    match replies.thread(words.alloc, loaded, number) {
         Ok(numbers) => {
             for number in numbers.as_slice() {
                 words.number(u64::from(*number));

@@ -1,8 +1,8 @@
 use Rattle.std.proofs.Common.{◌-◌, ◌∙◌, ap, sym, arith}
 use Rattle.jb_state.specs.Links.{number_or_0}
 use Rattle.jb_link.proofs.LiveLemmas.{live_here, none_numbered, not_live_here}
-use Rattle.jb_link.proofs.scan.number_if_live.Goals as goal
-use Rattle.jb_link.proofs.scan.number_if_live.Goals.{else-number-base-via-then-number-base+else-is_live_at, else-number-base-via-else-number-base}
+use Rattle.jb_link.proofs.slots.number_if_live.Goals as goal
+use Rattle.jb_link.proofs.slots.number_if_live.Goals.{else-number-base-via-then-number-base+else-is_live_at, else-number-base-via-else-number-base}
 
 pub returns-then-is_live_at : goal.returns-then-is_live_at
 returns-then-is_live_at c =
