@@ -80,7 +80,8 @@ pub record IsOf (base : ℕ) (slots : List LoadedSlot) (one : Linkable) : Type 0
   pub at : slice_get slots place ≡ Some (Live message)
   pub is : one ≡ loaded_linkable (base + place) message
 
-behind : (base : ℕ) (slot : LoadedSlot) (slots : List LoadedSlot) (one : Linkable) → IsOf (base + 1) slots one → IsOf base (slot ∷ slots) one
+-- behind one more slot it is one too
+pub behind : (base : ℕ) (slot : LoadedSlot) (slots : List LoadedSlot) (one : Linkable) → IsOf (base + 1) slots one → IsOf base (slot ∷ slots) one
 behind base slot slots one h = record {
   place = suc h.place;
   message = h.message;
@@ -149,11 +150,6 @@ get_beside (x ∷ xs) zero y zero h = absurd (h refl)
 get_beside (x ∷ xs) zero y (suc k) h = refl
 get_beside (x ∷ xs) (suc j) y zero h = refl
 get_beside (x ∷ xs) (suc j) y (suc k) h = get_beside xs j y k (λ e. h (ap suc e))
-
-pub length_set : (xs : List LoadedSlot) (j : ℕ) (y : LoadedSlot) → length (slice_set xs j y) ≡ length xs
-length_set [] j y = refl
-length_set (x ∷ xs) zero y = refl
-length_set (x ∷ xs) (suc j) y = ap suc (length_set xs j y)
 
 -- and so each other number names what it named
 pub named_beside : (loaded : Loaded) (one : ℕ) (slot : LoadedSlot) (number : ℕ) → loaded.base ≤ one → number ≢ one

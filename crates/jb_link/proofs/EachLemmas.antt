@@ -9,6 +9,7 @@ use Rattle.jb_state.specs.declared.loaded.LoadedMessage.{LoadedMessage}
 use Rattle.jb_state.specs.declared.loaded.LoadedSlot.{LoadedSlot}
 use Rattle.jb_state.specs.declared.loaded.LoadedSlot.TheVariants.{Empty, Killed, Live}
 use Rattle.jb_state.specs.LiveSlots.{linkables_from, loaded_linkable}
+use Rattle.jb_link.proofs.AreaLemmas.{IsOf, behind}
 
 -- it holds of each
 abbrev pub Each : (Linkable → Type 0) → List Linkable → Type 0
@@ -86,37 +87,28 @@ each_at P (suc k) base (Live other ∷ slots) message h at =
     let same : base + 1 + k ≡ base + suc k = omega arith in
     subst (λ (n : ℕ). P (loaded_linkable n message)) same (each_at P k (base + 1) slots message h.1 at)
 
--- a live message of these slots, the first of which has the number `base`
-pub record IsOneOf (base : ℕ) (slots : List LoadedSlot) (one : Linkable) : Type 0 where
-  pub place : ℕ
-  pub message : LoadedMessage
-  pub at : slice_get slots place ≡ Some (Live message)
-  pub is : one ≡ loaded_linkable (base + place) message
-
--- behind one more slot it is one too
-one_behind : (base : ℕ) (slot : LoadedSlot) (slots : List LoadedSlot) (one : Linkable) → IsOneOf (base + 1) slots one → IsOneOf base (slot ∷ slots) one
-one_behind base slot slots one h =
-    let same : base + 1 + h.place ≡ base + suc h.place = omega arith in
-    record { place = suc h.place; message = h.message; at = h.at; is = h.is ∙ ap (λ n. loaded_linkable n h.message) same }
-
--- each is one of them
-pub each_is_one : (base : ℕ) (slots : List LoadedSlot) → Each (IsOneOf base slots) (linkables_from base slots)
+-- each is a live message of the slots
+pub each_is_one : (base : ℕ) (slots : List LoadedSlot) → Each (IsOf base slots) (linkables_from base slots)
 each_is_one base [] = tt
-each_is_one base (Empty ∷ slots) = each_then (IsOneOf (base + 1) slots) (IsOneOf base (Empty ∷ slots)) (one_behind base Empty slots) (linkables_from (base + 1) slots) (each_is_one (base + 1) slots)
+each_is_one base (Empty ∷ slots) = each_then (IsOf (base + 1) slots) (IsOf base (Empty ∷ slots)) (behind base Empty slots) (linkables_from (base + 1) slots) (each_is_one (base + 1) slots)
 each_is_one base (Killed at ∷ slots) =
-    each_then (IsOneOf (base + 1) slots) (IsOneOf base (Killed at ∷ slots)) (one_behind base (Killed at) slots) (linkables_from (base + 1) slots) (each_is_one (base + 1) slots)
+    each_then (IsOf (base + 1) slots) (IsOf base (Killed at ∷ slots)) (behind base (Killed at) slots) (linkables_from (base + 1) slots) (each_is_one (base + 1) slots)
 each_is_one base (Live message ∷ slots) =
     let same : base ≡ base + 0 = omega arith in (
       record { place = 0; message = message; at = refl; is = ap (λ n. loaded_linkable n message) same },
-      each_then (IsOneOf (base + 1) slots) (IsOneOf base (Live message ∷ slots)) (one_behind base (Live message) slots) (linkables_from (base + 1) slots) (each_is_one (base + 1) slots),
+      each_then (IsOf (base + 1) slots) (IsOf base (Live message ∷ slots)) (behind base (Live message) slots) (linkables_from (base + 1) slots) (each_is_one (base + 1) slots),
     )
 
 -- each has a number from that of the first slot on
 pub each_from : (base : ℕ) (slots : List LoadedSlot) → Each (λ one. base ≤ one.number) (linkables_from base slots)
 each_from base slots =
-    each_then (IsOneOf base slots) (λ one. base ≤ one.number)
+    each_then (IsOf base slots) (λ one. base ≤ one.number)
     (λ one h. let numbered : one.number ≡ base + h.place = ap (λ (l : Linkable). l.number) h.is in omega arith)
     (linkables_from base slots) (each_is_one base slots)
+
+-- so has what is found
+pub found_from : (f : Linkable → Bool) (base : ℕ) (slots : List LoadedSlot) (x : Linkable) → find f (linkables_from base slots) ≡ Some x → base ≤ x.number
+found_from f base slots x found = (found_each (λ one. base ≤ one.number) f (linkables_from base slots) x (each_from base slots) found).0
 
 -- of those that pass, the one found from the end has the greatest number
 pub greatest_found : (f : Linkable → Bool) (base : ℕ) (slots : List LoadedSlot) (last : Linkable) → find f (reverse (linkables_from base slots)) ≡ Some last

@@ -1,7 +1,5 @@
 -- The lists of ids: what a search finds in one, and what it is after a change.
-use Rattle.std.proofs.Common.{◌≡◌, ◌<◌, ◌≤◌, ◌+◌, ◌-◌, inl, inr, ℕ, Bool, true, false, List, [], ◌∷◌, ◌++◌, length, get_or, refl, sym, ◌∙◌, ap, subst, arith}
-use Rattle.std.specs.Borrow.{Bor}
-use Rattle.jb_link.specs.Ids.{lent}
+use Rattle.std.proofs.Common.{◌≡◌, ◌<◌, ◌≤◌, ◌+◌, ◌-◌, inl, inr, ℕ, true, false, List, [], ◌∷◌, ◌++◌, length, get_or, refl, sym, ◌∙◌, ap, subst, arith}
 use Rattle.std.specs.Prelude.{Contains, Option, Some, None, IsSome, is_some, insert, remove, option_and_then, unwrap_or}
 use Rattle.std.specs.List.Sorted.{IsPermutation, IsSortedBy}
 use Rattle.std.specs.Ordering.{is_lt, nat_cmp, ordering_then}
@@ -204,8 +202,3 @@ ids_sorted kind loaded numbers sorted below moved rises =
       rising = rises_from_sorted id_order_total (id_place kind loaded) sorted rises
           (λ i j d before within e. once.apart i j d (omega arith) within (λ k. omega arith) (same_place kind loaded (get_or sorted i d) (get_or sorted j d) e));
     }
-
--- whether an id that is lent is there
-pub lent_some : (found : Option (Bor (List ℕ))) (id : Option (List ℕ)) {b : Bool} → lent found ≡ id → is_some found ≡ b → is_some id ≡ b
-lent_some None id is some = ap is_some (sym is) ∙ some
-lent_some (Some bytes) id is some = ap is_some (sym is) ∙ some

@@ -1,5 +1,5 @@
 -- The index of an area when a message comes and when one is killed.
-use Rattle.std.proofs.Common.{◌≡◌, ◌≢◌, ◌≤◌, ◌+◌, ◌-◌, inl, inr, ℕ, List, [], ◌∷◌, ◌++◌, length, get_or, refl, sym, ◌∙◌, ap, subst, arith}
+use Rattle.std.proofs.Common.{◌≡◌, ◌≢◌, ◌≤◌, ◌+◌, ◌-◌, inl, inr, ℕ, List, [], ◌∷◌, ◌++◌, length, length-set, get_or, refl, sym, ◌∙◌, ap, subst, arith}
 use Rattle.std.specs.Prelude.{Contains, Option, None, IsSome, option_and_then, unwrap_or}
 use Rattle.std.specs.declared.cmp.Ordering.{Ordering}
 use Rattle.std.proofs.lemmas.Bool.{cases_eq}
@@ -11,7 +11,7 @@ use Rattle.jb_state.specs.declared.loaded.Loaded.{Loaded}
 use Rattle.jb_state.specs.declared.loaded.LoadedMessage.{LoadedMessage}
 use Rattle.jb_state.specs.declared.loaded.LoadedSlot.{LoadedSlot}
 use Rattle.jb_state.specs.declared.loaded.LoadedSlot.TheVariants.{Killed}
-use Rattle.jb_link.proofs.AreaLemmas.{killed_names_none, length_set, named_before, named_beside, named_is_in}
+use Rattle.jb_link.proofs.AreaLemmas.{killed_names_none, named_before, named_beside, named_is_in}
 use Rattle.jb_link.proofs.IdListLemmas.{id_is_in}
 use Rattle.jb_link.proofs.KeptLemmas.{keeps_pair}
 use Rattle.jb_link.specs.IdLists.{IsIdList, IsIdListBut, id_at, id_place}
@@ -141,7 +141,7 @@ pairs_killed loaded number header_at old new from list loses = record {
       let was = list.each first second still.0 in
       record {
         later = was.later;
-        there = omega (arith, was.there, length_set loaded.slots (number - loaded.base) (Killed header_at));
+        there = omega (arith, was.there, length-set loaded.slots (number - loaded.base) (Killed header_at));
         keeps = λ live. elim (cases_eq first number) [
           | inl is ↦ absurd (gone first is live)
           | inr other ↦

@@ -1,5 +1,5 @@
 -- What leaves the index of an area as it is.
-use Rattle.std.proofs.Common.{◌≡◌, ◌<◌, ◌≤◌, ◌+◌, ◌-◌, ◌⊎◌, inl, inr, ℕ, zero, suc, List, [], ◌∷◌, length, map, refl, sym, ◌∙◌, ap, subst, arith, cond, nat_lt}
+use Rattle.std.proofs.Common.{◌≡◌, ◌<◌, ◌≤◌, ◌+◌, ◌-◌, ◌⊎◌, inl, inr, ℕ, zero, suc, List, [], ◌∷◌, length, length-set, map, refl, sym, ◌∙◌, ap, subst, arith, cond, nat_lt}
 use Rattle.std.specs.Prelude.{◌↔◌, Option, Some, None, IsSome, is_some, slice_get, unwrap_or}
 use Rattle.std.proofs.lemmas.Bool.{cases_eq, cases_lt}
 use Rattle.jb_bytes.specs.Subfields.{first_of}
@@ -17,7 +17,7 @@ use Rattle.jb_state.specs.declared.loaded.LoadedMessage.{LoadedMessage}
 use Rattle.jb_state.specs.declared.loaded.LoadedSlot.{LoadedSlot}
 use Rattle.jb_state.specs.declared.loaded.LoadedSlot.TheVariants.{Empty, Killed, Live}
 use Rattle.jb_state.specs.declared.message.Head.{Head}
-use Rattle.jb_link.proofs.AreaLemmas.{below_base, by_place, get_put, length_set, named_beside, named_is_in, some_named}
+use Rattle.jb_link.proofs.AreaLemmas.{below_base, by_place, get_put, named_beside, named_is_in, some_named}
 use Rattle.jb_link.proofs.IndexLemmas.{id_of, rises_alike}
 use Rattle.jb_link.proofs.FoundLemmas.{kept_is_parent, parent_kept_live}
 use Rattle.jb_link.specs.IdLists.{IsIdList, id_at, id_place}
@@ -155,7 +155,7 @@ stays_under_heads replies loaded place message head at same index =
     let is : loaded.base + place - loaded.base ≡ place = omega arith in
     subst (λ k. IsIndexOf replies (with_head_at k head message loaded)) is
     (stays replies loaded (with_head_at (loaded.base + place - loaded.base) head message loaded) refl
-    (length_set loaded.slots (loaded.base + place - loaded.base) (Live (record message { head = head })))
+    (length-set loaded.slots (loaded.base + place - loaded.base) (Live (record message { head = head })))
     (head_alike loaded (loaded.base + place) message head (omega arith) (ap (slice_get loaded.slots) is ∙ at) same) index)
 
 -- a message and what a relink makes of it

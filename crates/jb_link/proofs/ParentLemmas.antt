@@ -17,7 +17,7 @@ use Rattle.jb_link.specs.Parents.{AreParents}
 use Rattle.jb_state.specs.LiveSlots.{linkables, linkables_from, loaded_linkable, message_in, msgid_in}
 use Rattle.jb_link.proofs.AreaLemmas.{below_base, by_place}
 use Rattle.jb_link.proofs.LiveLemmas.{find_below, find_numbered, linkable_in, linkables_from-append, none_numbered}
-use Rattle.jb_link.proofs.RangeLemmas.{found_from}
+use Rattle.jb_link.proofs.EachLemmas.{found_from}
 
 -- the parent at a place without a live message is 0
 pub parent_of_no_message : (base k : ℕ) (slots : List LoadedSlot) (slot : LoadedSlot) → slice_get slots k ≡ Some slot → ((message : LoadedMessage) → slot ≡ Live message → ⊥)

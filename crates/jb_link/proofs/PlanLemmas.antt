@@ -7,18 +7,19 @@ use Rattle.std.proofs.lemmas.List.{reverse-append, take-append-drop}
 use Rattle.std.proofs.lemmas.List.Folds.{find-append}
 use Rattle.std.proofs.Math.Seq.{drop-cons}
 use Rattle.std.specs.Option.{is_some, option_or}
-use Rattle.jb_state.specs.Links.{Linkable, first_reply_of, is_id, next_reply_of, number_or_0, parent_for, parent_of}
+use Rattle.jb_state.specs.Links.{Linkable, first_reply_of, is_answered_by, is_kept_by, next_reply_of, number_or_0, parent_for, parent_of}
 use Rattle.jb_state.specs.Message.{replyid_of}
 use Rattle.jb_state.specs.declared.links.Links.{Links}
 use Rattle.jb_state.specs.declared.loaded.LoadedMessage.{LoadedMessage}
 use Rattle.jb_state.specs.declared.loaded.LoadedSlot.{LoadedSlot}
 use Rattle.jb_state.specs.declared.loaded.LoadedSlot.TheVariants.{Empty, Killed, Live}
+use Rattle.jb_state.proofs.ThreadLaws.{parent_is_lower}
 use Rattle.jb_link.specs.Parents.{AreParents}
 use Rattle.jb_state.specs.Plan.{links_of}
 use Rattle.jb_state.specs.LiveSlots.{linkables_from, loaded_linkable, message_in}
-use Rattle.jb_link.proofs.LiveLemmas.{find_below, linkables_from-append}
+use Rattle.jb_link.proofs.LiveLemmas.{StandsAt, found_stands, linkables_from-append}
 use Rattle.jb_link.proofs.ParentLemmas.{parent_of_message}
-use Rattle.jb_link.proofs.RangeLemmas.{found_in_range, found_lower, never_found, same_found}
+use Rattle.jb_link.proofs.RangeLemmas.{never_found, same_found}
 
 -- the messages at the places from one on have been met: their links stand in the list, and the first reply of each number is known among them
 pub record IsMetFrom (base place : ℕ) (slots : List LoadedSlot) (firsts : List ℕ) (links : List Links) : Type 0 where
@@ -28,25 +29,22 @@ pub record IsMetFrom (base place : ℕ) (slots : List LoadedSlot) (firsts : List
 
 -- a parent is lower than its reply
 pub parent_lower : (live : List Linkable) (n : ℕ) (reply : Option (List ℕ)) (kept : ℕ) → parent_for live n reply kept ≤ n - 1
-parent_lower live n (Some id) kept = found_lower (λ one. is_id id one.msgid) n live
-parent_lower live n None kept = found_lower (λ one. one.number == kept) n live
+parent_lower live n reply kept = elim (parent_is_lower live n reply kept) [ inl none ↦ omega (arith, none) | inr below ↦ omega (arith, below) ]
 
 -- a parent is 0 or the number of a place below
-pub parent_in_range : (base k : ℕ) (slots : List LoadedSlot) (reply : Option (List ℕ)) (kept : ℕ) → k < length slots
+pub parent_in_range : (base k : ℕ) (slots : List LoadedSlot) (reply : Option (List ℕ)) (kept : ℕ)
     → (parent_for (linkables_from base slots) (base + k) reply kept ≡ 0)
     ⊎ ((base ≤ parent_for (linkables_from base slots) (base + k) reply kept) × (parent_for (linkables_from base slots) (base + k) reply kept < base + k))
-parent_in_range base k slots (Some id) kept within =
-    let front : length (take k slots) ≡ k = omega (arith, length-take {A = LoadedSlot}) in
-    let r : Linkable → Bool = λ one. is_id id one.msgid in
-    let below : number_or_0 (find (λ one. nat_lt one.number (base + k) && r one) (linkables_from base slots)) ≡ number_or_0 (find r (linkables_from base (take k slots)))
-    = ap number_or_0 (find_below r k base (base + k) slots refl) in
-    elim (found_in_range r base (take k slots)) [ inl none ↦ inl (below ∙ none) | inr there ↦ inr (omega arith, omega arith) ]
-parent_in_range base k slots None kept within =
-    let front : length (take k slots) ≡ k = omega (arith, length-take {A = LoadedSlot}) in
-    let r : Linkable → Bool = λ one. one.number == kept in
-    let below : number_or_0 (find (λ one. nat_lt one.number (base + k) && r one) (linkables_from base slots)) ≡ number_or_0 (find r (linkables_from base (take k slots)))
-    = ap number_or_0 (find_below r k base (base + k) slots refl) in
-    elim (found_in_range r base (take k slots)) [ inl none ↦ inl (below ∙ none) | inr there ↦ inr (omega arith, omega arith) ]
+parent_in_range base k slots reply kept = by_place _ (stands reply) (parent_is_lower (linkables_from base slots) (base + k) reply kept)
+  where
+    stands : (reply : Option (List ℕ)) → (parent_for (linkables_from base slots) (base + k) reply kept ≡ 0) ⊎ StandsAt base (parent_for (linkables_from base slots) (base + k) reply kept) slots
+    stands (Some id) = found_stands (is_answered_by (base + k) id) base slots
+    stands None = found_stands (is_kept_by (base + k) kept) base slots
+
+    by_place : (parent : ℕ) → (parent ≡ 0) ⊎ StandsAt base parent slots → (parent ≡ 0) ⊎ (parent < base + k) → (parent ≡ 0) ⊎ ((base ≤ parent) × (parent < base + k))
+    by_place parent (inl none) low = inl none
+    by_place parent (inr there) (inl none) = inl none
+    by_place parent (inr there) (inr below) = inr (let numbered = there.numbered in omega (arith, numbered), below)
 
 -- the live messages, cut behind a place
 pub cut_behind : (base k : ℕ) (slots : List LoadedSlot) → k < length slots
@@ -96,27 +94,6 @@ from_place : (base k : ℕ) (slots : List LoadedSlot) (slot : LoadedSlot) → k 
 from_place base k slots slot within read =
     let next : suc k ≡ k + 1 = omega arith in
     ap (linkables_from (base + k)) (drop-cons slots k slot within ∙ ap (λ s. s ∷ drop (suc k) slots) (sym read) ∙ ap (λ j. slot ∷ drop j slots) next)
-
--- a slot without a live message adds none
-from_no_message : (n m : ℕ) (slot : LoadedSlot) (rest : List LoadedSlot) → n + 1 ≡ m → is_some (message_in (Some slot)) ≡ false
-    → linkables_from n (slot ∷ rest) ≡ linkables_from m rest
-from_no_message n m Empty rest e h = ap (λ a. linkables_from a rest) e
-from_no_message n m (Killed header_at) rest e h = ap (λ a. linkables_from a rest) e
-from_no_message n m (Live message) rest e h = cc
-
--- a slot without a live message changes nothing
-pub met_no_message : (base k : ℕ) (slots : List LoadedSlot) (slot : LoadedSlot) (firsts : List ℕ) (links : List Links)
-    → k < length slots → slot ≡ get_or slots k slot → is_some (message_in (Some slot)) ≡ false
-    → IsMetFrom base (k + 1) slots firsts links → IsMetFrom base k slots firsts links
-met_no_message base k slots slot firsts links within read none met =
-    let same : linkables_from (base + k) (drop k slots) ≡ linkables_from (base + (k + 1)) (drop (k + 1) slots)
-    = from_place base k slots slot within read ∙ from_no_message (base + k) (base + (k + 1)) slot (drop (k + 1) slots) (omega arith) none in
-    let L : List Linkable = linkables_from base slots in
-    record {
-      len = met.len;
-      each = λ j below. met.each j below ∙ ap (λ live. number_or_0 (find (λ one. parent_of L one == base + j) live)) (sym same);
-      listed = met.listed ∙ ap (λ live. reverse (map (links_of L) live)) (sym same);
-    }
 
 -- the links of one number
 abbrev links_with : ℕ → ℕ → ℕ → ℕ → Links
@@ -193,7 +170,7 @@ met_message base k parent first next slots message slot firsts firsts' links abo
     = from_place base k slots slot within read ∙ ap (λ s. linkables_from (base + k) (s ∷ drop (k + 1) slots)) live
     ∙ ap (λ n. one ∷ linkables_from n (drop (k + 1) slots)) further in
     let range : (parent ≡ 0) ⊎ ((base ≤ parent) × (parent < base + k))
-    = subst (λ (p : ℕ). (p ≡ 0) ⊎ ((base ≤ p) × (p < base + k))) (sym is_parent) (parent_in_range base k slots one.replyid one.kept within) in
+    = subst (λ (p : ℕ). (p ≡ 0) ⊎ ((base ≤ p) × (p < base + k))) (sym is_parent) (parent_in_range base k slots one.replyid one.kept) in
     let known : links_with (base + k) parent first next ≡ links_of L one
     = same_links (base + k) parent first next (parent_of L one) (first_reply_of L (base + k)) (next_reply_of L (base + k) (parent_of L one))
     is_parent
@@ -229,7 +206,7 @@ parent_at_in_range base k count slots slot parents within read live are len =
     let at : slice_get slots k ≡ Some (Live message) = slice_get_read slots (length slots) k slot refl within read ∙ ap Some is in
     let known : slice_index parents k ≡ parent_of (linkables_from base slots) (loaded_linkable (base + k) message) = are.each k within ∙ parent_of_message base k slots message at in
     let range : (slice_index parents k ≡ 0) ⊎ ((base ≤ slice_index parents k) × (slice_index parents k < base + k))
-    = subst (λ (p : ℕ). (p ≡ 0) ⊎ ((base ≤ p) × (p < base + k))) (sym known) (parent_in_range base k slots (replyid_of message.subfields) message.head.reply_to within) in
+    = subst (λ (p : ℕ). (p ≡ 0) ⊎ ((base ≤ p) × (p < base + k))) (sym known) (parent_in_range base k slots (replyid_of message.subfields) message.head.reply_to) in
     elim range [ inl none ↦ inl none | inr (from, to) ↦ inr (from, omega arith) ]
 
 -- the step at a live slot, in the terms of the loop

@@ -10,7 +10,8 @@ use Rattle.jb_state.specs.declared.loaded.LoadedMessage.{LoadedMessage}
 use Rattle.jb_state.specs.declared.loaded.LoadedSlot.{LoadedSlot}
 use Rattle.jb_state.specs.declared.loaded.LoadedSlot.TheVariants.{Empty, Killed, Live}
 use Rattle.jb_state.specs.LiveSlots.{linkables_from, loaded_linkable}
-use Rattle.jb_link.proofs.RangeLemmas.{found_from, option_or_none, same_found}
+use Rattle.jb_link.proofs.EachLemmas.{found_from}
+use Rattle.jb_link.proofs.RangeLemmas.{option_or_none, same_found}
 
 -- a message without its text and its places
 abbrev pub unload : LiveMessage → LoadedMessage

@@ -8,7 +8,8 @@ use Rattle.jb_state.specs.State.{AreaState, LiveMessage, SlotState, live_message
 use Rattle.jb_state.specs.declared.loaded.LoadedSlot.{LoadedSlot}
 use Rattle.jb_state.specs.declared.loaded.LoadedSlot.TheVariants.{Live}
 use Rattle.jb_state.specs.LiveSlots.{loaded_linkable}
-use Rattle.jb_link.proofs.EachLemmas.{Each, IsOneOf, each_is_one, each_reversed, each_then, found_each, greatest_found}
+use Rattle.jb_link.proofs.AreaLemmas.{IsOf}
+use Rattle.jb_link.proofs.EachLemmas.{Each, each_is_one, each_reversed, each_then, found_each, greatest_found}
 use Rattle.jb_link.proofs.LiveLemmas.{StandsAt, found_stands}
 use Rattle.jb_link.proofs.PostLemmas.{linkables_unloaded, unload, unloaded}
 use Rattle.jb_link.proofs.SpliceLemmas.{from_unloaded, linkables_set, to_unloaded}
@@ -86,7 +87,7 @@ links_after state message parent kept h = by_parent (zero_or_some parent)
         (linkables_set stands.place state.base state.slots t (with_first_reply N t) at (λ n. refl) ∙ live_is)
         (kept_with_first state.base state.slots message parent kept stands.place t h at stands.numbered (ap number_or_0 e)))
     by_last some (Some x) e =
-        let (one, passes) = found_each (IsOneOf state.base U) f (reverse L) x (each_reversed (IsOneOf state.base U) L (each_is_one state.base U)) e in
+        let (one, passes) = found_each (IsOf state.base U) f (reverse L) x (each_reversed (IsOf state.base U) L (each_is_one state.base U)) e in
         let (t, at) = from_unloaded one.place state.slots one.message one.at in
         let again : Some (Live one.message) ≡ Some (Live (unload t)) = sym one.at ∙ to_unloaded one.place state.slots t at in
         let same : one.message ≡ unload t = cc in
