@@ -19,7 +19,7 @@ use Rattle.jb_model.specs.declared.command.Field.TheVariants as field
 use Rattle.jb_state.specs.declared.look.Answer.TheVariants.{Summaries, Figures as TheFigures}
 use Rattle.jb_state.specs.declared.look.Question.TheVariants as question
 use Rattle.jb_state.specs.declared.look.Question.TheVariants.{Figures}
-use Rattle.jb_state.specs.declared.look.SharedFault.TheVariants.{StoreFault, Gap, RunSpent, Barred}
+use Rattle.jb_state.specs.declared.look.SharedFault.TheVariants.{StoreFault, RunSpent, Barred}
 use Rattle.jb_model.specs.declared.reply.Reply.TheVariants as reply
 use Rattle.jb_state.specs.declared.summary.Summary.{Summary}
 use Rattle.jb_page.specs.declared.page.PageError.TheVariants.{Full, Spent}
@@ -231,7 +231,7 @@ top_commands =
     ∷ (Count 1, move.Count 2) ∷ (Line (codes "q"), says [])
     ∷ (Count 1234567, says (codes "  1  general" ++ replicate 22 32 ++ codes "1 unread^  3  news                    1234567 unread^Top> "))
     ∷ (Line (codes " a "), move.Count 0) ∷ (Fault StoreFault, says (codes "Store fault: the change is in doubt.^Top> ")) ∷ (Line (codes "a"), move.Count 0)
-    ∷ (Count 0, move.Count 2) ∷ (Fault (Gap 9 7), says (codes "  1  general" ++ replicate 22 32 ++ codes "0 unread^Gap: shown 9, held 7.^Top> "))
+    ∷ (Count 0, move.Count 2) ∷ (Fault Barred, says (codes "  1  general" ++ replicate 22 32 ++ codes "0 unread^Index not open, try again.^Top> "))
     ∷ (Line (codes "Q"), ends (codes "Goodbye.^") Quit) ∷ [])
 
 top_commands_steps : Follows (Top 0) top_commands
@@ -254,7 +254,7 @@ area_commands =
     ∷ (Count 1, says []) ∷ (counted 1 1, says []) ∷ (listed [], says (codes "Nothing.^[general] ")) ∷ (Line (codes "  l "), Look 0 (question.List 0 20))
     ∷ (Fault Barred, says (codes "Index not open, try again.^[general] ")) ∷ (Line (codes "l   0000000007 "), Look 0 (question.List 7 20))
     ∷ (listed (7 ∷ 9 ∷ []), says (codes "       7  Test > Hello  abc^       9  Test > Hello  abc^[general] "))
-    ∷ (Line (codes "L 4294967295"), Look 0 (question.List 4294967295 20)) ∷ (Fault (Gap 9 7), says (codes "Gap: shown 9, held 7.^[general] "))
+    ∷ (Line (codes "L 4294967295"), Look 0 (question.List 4294967295 20)) ∷ (Fault RunSpent, says (codes "History full.^[general] "))
     ∷ (Line (codes "Y"), Look 0 (question.To 0 20)) ∷ (listed (1 ∷ []), says (codes "       1  Test > Hello  abc^[general] "))
     ∷ (Line (codes "y 4"), Look 0 (question.To 4 20)) ∷ (listed [], says (codes "Nothing.^[general] ")) ∷ (Line (codes "T 9"), Look 0 (question.Thread 9 100))
     ∷ (listed (9 ∷ []), says (codes "       9  Test > Hello  abc^[general] ")) ∷ (Line (codes "t 0"), Look 0 (question.Thread 0 100))
@@ -284,7 +284,7 @@ reading =
     ∷ (Line (codes "0"), Ask 0 (command.Read 0)) ∷ (Fault StoreFault, says (codes "Store fault: the change is in doubt.^[general] "))
     ∷ (Line (codes "N"), Look 0 (question.Unread 0 1)) ∷ (Line (codes "n"), says []) ∷ (counted 1 1, says [])
     ∷ (listed [], says (codes "No unread messages.^[general] ")) ∷ (Line (codes "n"), Look 0 (question.Unread 0 1))
-    ∷ (Fault (Gap 9 7), says (codes "Gap: shown 9, held 7.^[general] ")) ∷ (Line (codes "n"), Look 0 (question.Unread 0 1))
+    ∷ (Fault Barred, says (codes "Index not open, try again.^[general] ")) ∷ (Line (codes "n"), Look 0 (question.Unread 0 1))
     ∷ (listed (6 ∷ 7 ∷ []), Ask 0 (command.Read 6)) ∷ (Reply (reply.Denied A4), says (codes "Denied by rule A4.^[general] "))
     ∷ (Line (codes "n"), Look 0 (question.Unread 0 1)) ∷ (listed (6 ∷ []), Ask 0 (command.Read 6)) ∷ (Fault RunSpent, says (codes "History full.^[general] "))
     ∷ (Line (codes "R"), says (codes "No message shown.^[general] ")) ∷ (Line (codes " 0000000001"), Ask 0 (command.Read 1))
@@ -346,7 +346,7 @@ writing =
     ∷ (Line (codes "n"), says (codes "Text, . ends, ! cancels^")) ∷ (Line (codes "."), Ask 0 (command.Post (codes "a") (codes "b") [] 0 false))
     ∷ (Reply (reply.NumbersSpent 16777216), says (codes "Numbers spent at 16777216.^[general] ")) ∷ (Line (codes "P"), says (codes "To: "))
     ∷ (Line (codes "a"), says (codes "Subject: ")) ∷ (Line (codes "b"), says (codes "Private (Y/N): ")) ∷ (Line (codes "n"), says (codes "Text, . ends, ! cancels^"))
-    ∷ (Line (codes "."), Ask 0 (command.Post (codes "a") (codes "b") [] 0 false)) ∷ (Fault (Gap 9 7), says (codes "Gap: shown 9, held 7.^[general] ")) ∷ []
+    ∷ (Line (codes "."), Ask 0 (command.Post (codes "a") (codes "b") [] 0 false)) ∷ (Fault RunSpent, says (codes "History full.^[general] ")) ∷ []
 
 writing_steps : Follows (Top 0) writing
 unfolding menu_turn stage_turn command_of digits heading_text date_text clock_of year_and_day month_and_day
@@ -368,7 +368,7 @@ editing =
     ∷ (Line (codes "x"), says []) ∷ (Line (codes "!"), says (codes "Cancelled.^[general] ")) ∷ (Line (codes "E 9"), Ask 0 (command.Peek 9))
     ∷ (Reply (reply.NoMessage 9), says (codes "No such message.^[general] ")) ∷ (Line (codes "e 0"), Ask 0 (command.Peek 0))
     ∷ (Reply (reply.Denied A1), says (codes "Denied by rule A1.^[general] ")) ∷ (Line (codes "E 4294967295"), Ask 0 (command.Peek 4294967295))
-    ∷ (Fault (Gap 9 7), says (codes "Gap: shown 9, held 7.^[general] ")) ∷ (Line (codes "E 1"), Ask 0 (command.Peek 1))
+    ∷ (Fault RunSpent, says (codes "History full.^[general] ")) ∷ (Line (codes "E 1"), Ask 0 (command.Peek 1))
     ∷ (read 1 0x00800001 (replicate 100 97), says (codes "Subject (empty keeps): ")) ∷ (Line [], says (codes "Text, . ends, ! cancels^"))
     ∷ (Line (codes "."), Ask 0 (command.Edit 1 (replicate 100 97) [])) ∷ (Reply (reply.SubfieldsFull 262145), says (codes "Subfields full: 262145 bytes.^[general] "))
     ∷ (Line (codes "E 1"), Ask 0 (command.Peek 1)) ∷ (read 1 0x00800001 [], says (codes "Subject (empty keeps): ")) ∷ (Line [], says (codes "Text, . ends, ! cancels^"))

@@ -14,3 +14,7 @@ module _ {E : Type 0} where
   -- where the word was the one expected, the list is now this one
   abbrev pub Grows : List E → Step E → View E ℕ → ℕ → View E ℕ → Type 0
   Grows items s v found w = MatchBool (found == s.old) (w.0 ≡ items) (Unit {0})
+
+  -- what the word says is the length of the list
+  abbrev pub TellsCount : Step E → View E ℕ → ℕ → View E ℕ → Type 0
+  TellsCount s v found w = found ≡ length w.0

@@ -95,3 +95,40 @@ pub(crate) fn go_on<T: Published<O, E>, O, E, J: NamesList<E>, R: Wait>(
     }
     unreachable!()
 }
+
+/// A look at the word tells how long the list is.
+pub(crate) struct Count;
+
+impl<E> Play<E, u64> for Count {
+    ghost use Rattle.jb_publish.specs.Books.{TellsCount};
+
+    ghost then = { TellsCount };
+}
+
+/// Shows that what was seen is the whole list, so that each other beginning of it begins this. It waits where the word is not the
+/// length that is known, which only another writer could bring about.
+pub(crate) fn is_whole<T: Published<O, E>, O, E, R: Wait>(
+    rt: &R,
+    word: &ListWord<E>,
+    seen: &ListSeen<E>,
+    count: u64,
+    other: &ListSeen<E>,
+)
+    requires word { word.now ≡ length_word seen.now.book }
+    requires count { count ≡ length seen.now.log }
+    requires book { other.now.book ≡ seen.now.book }
+    ensures { IsPrefix other.now.log seen.now.log }
+{
+    let backoff = Backoff::new();
+    for _ in rt.forever() {
+        let mut both = seen.again();
+        both.learn(other);
+        let mut offer: Offer<E, u64, ListLaw, Nothing> = both.plain::<Nothing, (), Asks<T, O>>(&());
+        let found = word.load::<Count, Nothing>(&mut both, &mut offer);
+        if found == count {
+            return;
+        }
+        backoff.snooze();
+    }
+    unreachable!()
+}

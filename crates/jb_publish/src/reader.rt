@@ -35,13 +35,6 @@ fn enter<T: Published<O, E> + Drop, O, E, J: Floor>(
 }
 
 impl<T: Published<O, E> + Drop, O, E> Shown<T, O, E> {
-    /// How many entries its looks have shown.
-    pub fn entries(&self) -> u64
-        ensures { result ≡ length (account_of self.now).shown }
-    {
-        self.shown.count
-    }
-
     /// What its looks have shown.
     pub fn seen(&self) -> Front<E>
         ensures list { known_list result ≡ (account_of self.now).shown }

@@ -1,7 +1,6 @@
 //! What the writer does.
-ghost use Rattle.std.specs.Prelude.{◌≡◌, ◌≤◌, ◌<◌, true, fold, length, MatchBool, MatchResult, OnErr};
+ghost use Rattle.std.specs.Prelude.{◌≡◌, ◌≤◌, ◌<◌, true, fold, length, MatchResult, OnErr};
 ghost use mathlib.Core.List.{IsPrefix};
-ghost use Rattle.jb_publish.specs.Accounts.{account_of};
 ghost use Rattle.jb_publish.specs.Editions.{edition};
 ghost use Rattle.jb_publish.specs.Fronts.{known_list};
 ghost use Rattle.jb_publish.specs.Marks.{ValueStandsFrom, opening_at};
@@ -10,9 +9,9 @@ ghost use Rattle.jb_publish.specs.Publications.{publication_of, queued_with, sho
 ghost use Rattle.jb_publish.specs.declared.ends.TheConstants.{ROOM};
 
 use crate::edition::Edition;
-use crate::ends::{Shower, Shown};
+use crate::ends::Shower;
 use crate::front::Front;
-use crate::list::go_on;
+use crate::list::{go_on, is_whole};
 use crate::meaning::{Absorbs, NamesList, Published};
 use crate::rule::Publish;
 use std::sync::Wait;
@@ -42,13 +41,6 @@ fn bring_up<T: Absorbs<K>, K, E>(
 }
 
 impl<T: Published<O, E> + Absorbs<K> + Drop, K: Drop, O, E> Shower<T, K, O, E> {
-    /// How many entries were published.
-    pub fn entries(&self) -> u64
-        ensures { result ≡ length (publication_of self.now).list }
-    {
-        self.front.count
-    }
-
     /// Queues a change, which no look sees before it is shown. It comes back where there is no memory, and so never while fewer than
     /// `ROOM` are queued.
     pub fn queue(&mut self, change: K) -> Result<(), K>
@@ -109,18 +101,19 @@ impl<T: Published<O, E> + Absorbs<K> + Drop, K: Drop, O, E> Shower<T, K, O, E> {
         self.front.again()
     }
 
-    /// Whether the reader's looks showed no more than was published. Then what they showed begins it, and else it begins what
-    /// they showed.
-    pub fn covers(&self, shown: &Shown<T, O, E>) -> bool
-        requires { (account_of shown.now).mark ≡ (publication_of self.now).mark }
-        ensures prefix { MatchBool result
-            (IsPrefix (account_of shown.now).shown (publication_of self.now).list)
-            (IsPrefix (publication_of self.now).list (account_of shown.now).shown) }
-        ensures length { MatchBool result (length (account_of shown.now).shown
-            ≤ length (publication_of self.now).list)
-            (length (publication_of self.now).list < length (account_of shown.now).shown) }
+    /// Shows that this list, which an end of this pair was shown or told, begins what was published. It waits where another writer has
+    /// gone on with the list, and there is none.
+    pub fn leads<R: Wait>(&self, rt: &R, front: &Front<E>)
+        requires pair { IsIn (publication_of self.now).mark front.now }
+        ensures { IsPrefix (known_list front.now) (publication_of self.now).list }
     {
-        self.front.covers(&shown.shown)
+        is_whole::<T, O, E, R>(
+            rt,
+            &self.word,
+            &self.front.seen,
+            self.front.count,
+            &front.seen,
+        );
     }
 
     /// Ends the copies, and gives the value that was shown last. It waits for the looks that still see one. Changes that are

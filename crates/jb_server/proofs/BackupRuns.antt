@@ -15,7 +15,7 @@ use Rattle.jb_shared.specs.Calls.{Answers, Calls, IsStoppedCall, Runs, call_of, 
 use Rattle.jb_shared.specs.Passes.{Known, PassView, refusing, seen, stepping}
 use Rattle.jb_shared.specs.declared.backed.Backed.{Backed}
 use Rattle.jb_shared.specs.declared.error.SharedError.{SharedError}
-use Rattle.jb_shared.specs.declared.error.SharedError.TheVariants.{Gap, OutOfMemory, RunSpent, StoreFault}
+use Rattle.jb_shared.specs.declared.error.SharedError.TheVariants.{OutOfMemory, RunSpent, StoreFault}
 use Rattle.jb_shared.specs.declared.refusal.Refusal.{Refusal}
 use Rattle.jb_turn.specs.Rows.{Begins}
 use Rattle.jb_server.specs.Backups.{BacksUpDue, BacksUpOnto, due, due_at}
@@ -71,7 +71,6 @@ goes_running : (old new : Known) (call : Outcome → Entry) (result : Result Rep
 goes_running old new call (Ok reply) runs = goes_recording old new _ runs
 goes_running old new call (Err StoreFault) runs = goes_recording old new _ runs.1
 goes_running old new call (Err OutOfMemory) runs = goes_same old new runs
-goes_running old new call (Err (Gap shown held)) runs = absurd runs
 goes_running old new call (Err RunSpent) runs = absurd runs
 
 goes_stopped : (old new : Known) (user : User) (moment : ℕ) (command : Command) → IsStoppedCall old new user moment command → GoesOn old new
@@ -87,7 +86,6 @@ goes_answered : (old new : Known) (user : User) (moment : ℕ) (command : Comman
 goes_answered old new user moment command (Ok reply) answers = goes_ended old new (call_of old.node old.mine user moment command) (Ok reply) answers.1.0 answers.1.1
 goes_answered old new user moment command (Err StoreFault) answers = goes_stopped old new user moment command answers.1
 goes_answered old new user moment command (Err OutOfMemory) answers = goes_ended old new (call_of old.node old.mine user moment command) (Err OutOfMemory) answers.1.0 answers.1.1
-goes_answered old new user moment command (Err (Gap shown held)) answers = goes_refusing old new _ answers.1.2
 goes_answered old new user moment command (Err RunSpent) answers = goes_refusing old new _ answers.1
 
 -- a call

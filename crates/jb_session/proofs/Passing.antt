@@ -14,7 +14,7 @@ use Rattle.jb_shared.specs.Looks.{Looks}
 use Rattle.jb_shared.specs.Passes.{Known, PassView, refusing, seen, stepping, turned_away}
 use Rattle.jb_shared.specs.declared.error.SharedError.{SharedError}
 use Rattle.jb_shared.specs.declared.refusal.Refusal.{Refusal}
-use Rattle.jb_shared.specs.declared.error.SharedError.TheVariants.{StoreFault, Gap, RunSpent, OutOfMemory}
+use Rattle.jb_shared.specs.declared.error.SharedError.TheVariants.{StoreFault, RunSpent, OutOfMemory}
 use Rattle.jb_speech.specs.declared.request.Act.{Act}
 use Rattle.jb_speech.specs.declared.request.Act.TheVariants.{Ask, Look, Count}
 use Rattle.jb_speech.specs.declared.request.AreaRequest.{AreaRequest}
@@ -57,7 +57,6 @@ asked : (old new : Known) (user : User) (moment : ℕ) (command : Command) (resu
 asked old new user moment command (Ok reply) c = asked_on old new c.taken (recorded (seen old c.taken) new c.answers.1.0 _ c.answers.1.1)
 asked old new user moment command (Err StoreFault) c = asked_on old new c.taken (stopped (seen old c.taken) new user moment command c.answers.1)
 asked old new user moment command (Err OutOfMemory) c = asked_on old new c.taken (ended (seen old c.taken) new c.answers.1.0 c.answers.1.1)
-asked old new user moment command (Err (Gap shown held)) c = asked_on old new c.taken (refused (seen old c.taken) new _ c.answers.1.2)
 asked old new user moment command (Err RunSpent) c = asked_on old new c.taken (refused (seen old c.taken) new _ c.answers.1)
 
 steps_on : (old new : Known) (steps : List Refusal) → HasCalled (stepping old steps) new → HasCalled old new
@@ -82,7 +81,6 @@ module _ (Keeps : Known → Known → Type 0) (same : (known : Known) → Keeps 
   answered : (readings : Option (List ℕ)) (user : User) (act : Act) (old new : Known) (what : Given) → GivesAnswer readings user act old new what → Keeps old new
   answered readings user (Ask command) old new (given.Reply reply) g = by_call old new (called old new user g.0 command (Ok reply) g.2)
   answered readings user (Ask command) old new (given.Fault fault.StoreFault) g = by_call old new (called old new user g.0 command (Err StoreFault) g.2)
-  answered readings user (Ask command) old new (given.Fault (fault.Gap shown held)) g = by_call old new (called old new user g.0 command (Err (Gap shown held)) g.2)
   answered readings user (Ask command) old new (given.Fault fault.RunSpent) g = by_call old new (called old new user g.0 command (Err RunSpent) g.2)
   answered readings user (Look question) old new (given.Answer answer) g = by_look old new g.0
   answered readings user (Look question) old new (given.Fault fault.Barred) g = by_bar old new g

@@ -17,7 +17,7 @@ use Rattle.jb_shared.specs.Calls.{Calls}
 use Rattle.jb_shared.specs.Looks.{Looks, OfShown}
 use Rattle.jb_shared.specs.Passes.{Known, PassView, turned_away}
 use Rattle.jb_shared.specs.declared.error.SharedError.{SharedError}
-use Rattle.jb_shared.specs.declared.error.SharedError.TheVariants.{StoreFault, Gap, RunSpent, OutOfMemory}
+use Rattle.jb_shared.specs.declared.error.SharedError.TheVariants.{StoreFault, RunSpent, OutOfMemory}
 use Rattle.jb_shared.specs.declared.shared.SharedArea.{SharedArea}
 use Rattle.jb_speech.specs.declared.request.Act.{Act}
 use Rattle.jb_speech.specs.declared.request.Act.TheVariants.{Ask, Look, Count}
@@ -75,7 +75,6 @@ module _ (readings : Option (List ℕ)) where
   abbrev pub GivesAnswer : User → Act → Known → Known → Given → Type 0
   GivesAnswer user (Ask command) old new (given.Reply reply) = AsksPass user command old new (Ok reply)
   GivesAnswer user (Ask command) old new (given.Fault fault.StoreFault) = AsksPass user command old new (Err StoreFault)
-  GivesAnswer user (Ask command) old new (given.Fault (fault.Gap shown held)) = AsksPass user command old new (Err (Gap shown held))
   GivesAnswer user (Ask command) old new (given.Fault fault.RunSpent) = AsksPass user command old new (Err RunSpent)
   GivesAnswer user (Look question) old new (given.Answer answer) = Looks old new × OfShown new (λ index. answer ≡ answer_to index user question)
   GivesAnswer user (Look question) old new (given.Fault fault.Barred) = new ≡ turned_away old

@@ -52,9 +52,6 @@ fn call<R: Wait, D: Disk, C: Clock>(
     match came {
         Ok(reply) => Ok(Given::Reply(reply)),
         Err(SharedError::StoreFault) => Ok(Given::Fault(SharedFault::StoreFault)),
-        Err(SharedError::Gap { shown, held }) => {
-            Ok(Given::Fault(SharedFault::Gap { shown, held }))
-        }
         Err(SharedError::RunSpent) => Ok(Given::Fault(SharedFault::RunSpent)),
         Err(SharedError::OutOfMemory) => Err(OutOfMemory),
     }

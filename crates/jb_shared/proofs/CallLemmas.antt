@@ -13,10 +13,11 @@ use Rattle.jb_publish.specs.Accounts.{Account, told_with}
 use Rattle.jb_publish.specs.Marks.{opening_at}
 use Rattle.jb_publish.specs.Publications.{publication_of}
 use Rattle.jb_publish.specs.declared.known.PairMark.{PairMark}
+use mathlib.Core.List.{IsPrefix}
 use Rattle.jb_turn.specs.Rows.{Begins, StandsFrom, row, when}
 use Rattle.jb_turn.specs.Steps.{given, noted, sighted as took_in}
 use Rattle.jb_turn.proofs.Callers.{is_at_itself}
-use Rattle.jb_shared.specs.Calls.{Answers, Asks, IsShownFrom, Performs, Runs, call_of, ending, recording}
+use Rattle.jb_shared.specs.Calls.{Answers, Asks, Performs, Runs, call_of, ending, recording}
 use Rattle.jb_shared.specs.Histories.{IsHistory, settled_of}
 use Rattle.jb_shared.specs.InTurn.{IsBehind, IsToldOf, Leads, SeatRow}
 use Rattle.jb_shared.specs.Inside.{known_by_both}
@@ -24,13 +25,13 @@ use Rattle.jb_shared.specs.Keeping.{IsKept}
 use Rattle.jb_shared.specs.Passes.{Known, refusing, seen}
 use Rattle.jb_shared.specs.Standing.{caller_of}
 use Rattle.jb_shared.specs.declared.error.SharedError.{SharedError}
-use Rattle.jb_shared.specs.declared.error.SharedError.TheVariants.{StoreFault, Gap, RunSpent, OutOfMemory}
+use Rattle.jb_shared.specs.declared.error.SharedError.TheVariants.{StoreFault, RunSpent, OutOfMemory}
 use Rattle.jb_shared.specs.declared.opening.Opening.{Opening}
 use Rattle.jb_shared.specs.declared.refusal.Refusal.{Refusal}
 use Rattle.jb_shared.specs.declared.shown.ShownArea.{ShownArea}
 use Rattle.jb_shared.proofs.KeepingLemmas.{begins_length, fits}
 use Rattle.jb_shared.proofs.KnowingLemmas.{mark_known}
-use Rattle.jb_shared.proofs.SettledLemmas.{begins_itself, begins_on, settled_begins}
+use Rattle.jb_shared.proofs.SettledLemmas.{begins_itself, begins_of, begins_on, settled_begins}
 
 -- one entry more, with these calls of the node
 leads_noted : (holds : Known → Known → Type 0) (old new : SeatRow) (entry : Entry) (own : List Entry) → new ≡ row old.node old.opening (old.front ++ entry ∷ []) own old.remarks
@@ -97,15 +98,14 @@ known_after row row' account account' account'' list list' rows told told' =
     ap (λ (r : SeatRow). known_by_both r account'') rows ∙ ap (λ (a : Account Opening Entry). known_by_both row a) told' ∙ ap (λ (a : Account Opening Entry). known_by_both row (told_with a list')) told
 
 -- a call that was let through, by its answer
-let_through : (old new : Known) (user : User) (moment : ℕ) (command : Command) (result : Result Reply SharedError) (settled : List Entry) → length old.front < MOST_ENTRIES → Begins old.shown settled → Performs old new user moment command result
-    → Answers old new user moment command result × IsShownFrom old.shown settled result
-let_through old new user moment command (Ok reply) settled room begins (inl runs) = ((room, runs), begins)
-let_through old new user moment command (Err StoreFault) settled room begins (inl (ended, (faults, is))) = ((room, inl (ended, faults, is)), begins)
-let_through old new user moment command (Err OutOfMemory) settled room begins (inl runs) = ((room, runs), begins)
-let_through old new user moment command (Err (Gap shown held)) settled room begins (inl (ended, none)) = absurd none
-let_through old new user moment command (Err RunSpent) settled room begins (inl (ended, none)) = absurd none
-let_through old new user moment command result settled room begins (inr (is, stopped)) =
-    subst (λ (r : Result Reply SharedError). Answers old new user moment command r × IsShownFrom old.shown settled r) (sym is) ((room, stopped), begins)
+let_through : (old new : Known) (user : User) (moment : ℕ) (command : Command) (result : Result Reply SharedError) → length old.front < MOST_ENTRIES → Performs old new user moment command result
+    → Answers old new user moment command result
+let_through old new user moment command (Ok reply) room (inl runs) = (room, runs)
+let_through old new user moment command (Err StoreFault) room (inl (ended, (faults, is))) = (room, inl (ended, faults, is))
+let_through old new user moment command (Err OutOfMemory) room (inl runs) = (room, runs)
+let_through old new user moment command (Err RunSpent) room (inl (ended, none)) = absurd none
+let_through old new user moment command result room (inr (is, stopped)) =
+    subst (λ (r : Result Reply SharedError). Answers old new user moment command r) (sym is) (room, stopped)
 
 module _ {D : Type 0} (shown : D → Device) where
   -- a call of a pass, that was let through
@@ -116,15 +116,15 @@ module _ {D : Type 0} (shown : D → Device) where
   calls_through account old taken new front state state' user moment command result took grows stands performs room later begins =
       let first = mark_known (IsKept shown) taken.opening state taken.front stands in
       let now = subst (λ (m : Option (PairMark Opening)). StandsFrom (IsKept shown) m state' new.front) (performs.mark ∙ first.1) later in
-      let through = let_through (known_by_both (took_in old front) account) (known_by_both new account) user moment command result (settled_of front) room begins
-      (subst (λ (k : SeatRow). Performs (known_by_both k account) (known_by_both new account) user moment command result) took (performs.known account)) in
       record {
         opening = first.0.opening;
         from = ap opening_at (sym (ap (λ (k : SeatRow). k.opening) took) ∙ first.1);
         taken = front;
         grows = grows;
-        answers = through.0;
-        covered = through.1;
+        answers =
+            let_through (known_by_both (took_in old front) account) (known_by_both new account) user moment command result room
+            (subst (λ (k : SeatRow). Performs (known_by_both k account) (known_by_both new account) user moment command result) took (performs.known account));
+        covered = begins;
         history = now.area.1.history;
       }
 
@@ -132,7 +132,7 @@ module _ {D : Type 0} (shown : D → Device) where
   pub calls_refused : (account : Account Opening Entry) (old taken new : SeatRow) (front : List Entry) (state : ShownArea D) (user : User) (moment : ℕ) (command : Command) (error : SharedError) (refusal : Refusal)
       → taken ≡ took_in old front → Begins old.front front → StandsFrom (IsKept shown) taken.opening state taken.front → new ≡ given taken (Some refusal)
       → (known_by_both new account ≡ refusing (seen (known_by_both old account) front) refusal → Answers (seen (known_by_both old account) front) (known_by_both new account) user moment command (Err error))
-      → IsShownFrom account.shown (settled_of front) (Err error) → Asks (known_by_both old account) (known_by_both new account) user moment command (Err error)
+      → Begins account.shown (settled_of front) → Asks (known_by_both old account) (known_by_both new account) user moment command (Err error)
   calls_refused account old taken new front state user moment command error refusal took grows stands is answers covered =
       let first = mark_known (IsKept shown) taken.opening state taken.front stands in
       let whole : new ≡ given (took_in old front) (Some refusal) = is ∙ ap (λ (k : SeatRow). given k (Some refusal)) took in
@@ -150,6 +150,18 @@ module _ {D : Type 0} (shown : D → Device) where
   pub same_pair : (known : SeatRow) (account : Account Opening Entry) (state : ShownArea D) → account.mark ≡ known.opening → StandsFrom (IsKept shown) known.opening state known.front
       → account.mark ≡ (publication_of state.shower).mark
   same_pair known account state mark stands = mark ∙ sym (fits shown known.opening state known.front stands).0
+
+  -- and so as the turn is taken
+  pub taken_pair : (old taken : SeatRow) (list : List Entry) (account : Account Opening Entry) (state : ShownArea D) → taken ≡ took_in old list → account.mark ≡ old.opening → StandsFrom (IsKept shown) taken.opening state taken.front
+      → account.mark ≡ (publication_of state.shower).mark
+  taken_pair old taken list account state took mark stands = same_pair taken account state (mark ∙ ap (λ (k : SeatRow). k.opening) (sym took)) stands
+
+  -- what it was shown begins what was published, and so all that is settled
+  pub shown_begins : (known : SeatRow) (account : Account Opening Entry) (state : ShownArea D) (list : List Entry) → list ≡ account.shown → StandsFrom (IsKept shown) known.opening state known.front → IsPrefix list (publication_of state.shower).list
+      → Begins account.shown (settled_of known.front)
+  shown_begins known account state list seen stands leads =
+      begins_of account.shown (settled_of known.front)
+      (subst (IsPrefix account.shown) (fits shown known.opening state known.front stands).1 (subst (λ (l : List Entry). IsPrefix l (publication_of state.shower).list) seen leads))
 
   -- a reader that was told no more may learn all that is shown
   pub may_inform : (known : SeatRow) (account : Account Opening Entry) (state : ShownArea D) → Begins account.told (settled_of known.front) → StandsFrom (IsKept shown) known.opening state known.front

@@ -1,8 +1,7 @@
 -- What closing shows of the passes.
-use Rattle.std.proofs.Common.{◌≡◌, ◌⊎◌, inl, inr, ℕ, zero, suc, ◌+◌, ◌<◌, ◌≤◌, Bool, true, false, List, [], ◌∷◌, All, get_or, length, map, take, MatchBool, Option, Some, None, refl, sym, ◌∙◌, ap, subst, arith}
+use Rattle.std.proofs.Common.{◌≡◌, ℕ, zero, suc, ◌+◌, ◌<◌, List, [], ◌∷◌, All, get_or, length, map, take, Option, Some, None, refl, sym, ◌∙◌, ap, subst}
 use Rattle.std.specs.Prelude.{option_and_then, unwrap_or}
 use Rattle.std.specs.Option.{option_map}
-use Rattle.std.proofs.lemmas.Bool.{cases_lt}
 use Rattle.std.proofs.lemmas.List.Elements.{All-head, All-more, All-tail, All-weaker}
 use mathlib.Core.Option.{some, some-injective}
 use mathlib.Core.List.{IsPrefix}
@@ -13,13 +12,13 @@ use Rattle.jb_publish.specs.Fronts.{book_of}
 use Rattle.jb_publish.specs.Marks.{book_at, mark_with}
 use Rattle.jb_publish.specs.Publications.{publication_of}
 use Rattle.jb_publish.specs.declared.known.PairMark.{PairMark}
-use Rattle.jb_publish.proofs.Fronts.{prefix_shorter, prefix_trans}
-use Rattle.jb_turn.specs.Rows.{Has}
+use Rattle.jb_publish.proofs.Fronts.{prefix_trans}
+use Rattle.jb_turn.specs.Rows.{Begins, Has}
 use Rattle.jb_turn.specs.Whole as turn
 use Rattle.jb_turn.proofs.Histories.{none_has}
 use Rattle.logbook.specs.Pages.{Book}
 use Rattle.jb_shared.specs.Areas.{IsOf}
-use Rattle.jb_shared.specs.Closing.{Closes, HasEachNode, HasNode, IsLowestMissing, IsPartOf, OneBegins, known_by}
+use Rattle.jb_shared.specs.Closing.{Closes, HasEachNode, HasNode, IsLowestMissing, IsPartOf, known_by}
 use Rattle.jb_shared.specs.InTurn.{SeatRow}
 use Rattle.jb_shared.specs.Keeping.{IsKept}
 use Rattle.jb_shared.specs.Passes.{AreaId, IsPairOf, Known, PassView, row_in}
@@ -66,24 +65,6 @@ pub missing_known : (passes : List PassView) (count node : ℕ) → turn.IsLowes
 missing_known passes count node (above, within, none, lower) =
     (above, within, (λ has. let row = of_known passes node has in none row.0 row.1 row.2), λ less more below. to_known passes less (lower less more below))
 
--- of two beginnings of one list one begins the other
-either_begins : (one other whole : List Entry) → IsPrefix one whole → IsPrefix other whole → OneBegins one other
-either_begins one other whole p q = by (cases_lt (length other) (length one))
-  where
-    by : (length other < length one) ⊎ (length one ≤ length other) → OneBegins one other
-    by (inl lt) = inr (begins_of other one (prefix_shorter other one whole q p (omega (arith, lt))))
-    by (inr le) = inl (begins_of one other (prefix_shorter one other whole p q le))
-
--- what begins a list that begins the other or goes on from it
-one_begins : (one longest other : List Entry) → IsPrefix one longest → IsPrefix longest other ⊎ IsPrefix other longest → OneBegins one other
-one_begins one longest other p (inl q) = inl (begins_of one other (prefix_trans one longest other p q))
-one_begins one longest other p (inr q) = either_begins one other longest p q
-
--- of two lists the one begins the other, as it was tested
-pub either_way : (b : Bool) (one other whole : List Entry) → other ≡ whole → MatchBool b (IsPrefix one other) (IsPrefix other one) → IsPrefix one whole ⊎ IsPrefix whole one
-either_way true one other whole same begins = inl (subst (λ (l : List Entry). IsPrefix one l) same begins)
-either_way false one other whole same begins = inr (subst (λ (l : List Entry). IsPrefix l one) same begins)
-
 -- what so many passes were shown begins a longer list, and so does what the next was shown
 pub shown_more : (passes : List PassView) (i : ℕ) (pass : PassView) (longest next : List Entry) → i < length passes → pass ≡ get_or passes i pass → IsPrefix longest next → IsPrefix pass.known.shown next
     → All (λ (p : PassView). IsPrefix p.known.shown longest) (take i passes) → All (λ (p : PassView). IsPrefix p.known.shown next) (take (i + 1) passes)
@@ -125,8 +106,8 @@ module _ {D : Type 0} where
   -- one history, of which each pass knows a part
   pub closes : (shown : D → Device) (book : Book) (passes : List PassView) (state : ShownArea D) (area : OpenArea D) (longest : List Entry) → All (λ (pass : PassView). IsPairOf pass book) passes
       → turn.IsWhole (IsKept shown) caller_of (map row_in passes) state → All (λ (pass : PassView). IsPrefix pass.known.shown longest) passes
-      → IsPrefix longest (publication_of state.shower).list ⊎ IsPrefix (publication_of state.shower).list longest → area ≡ state.area → Closes shown passes area
-  closes shown book passes state area longest paired whole begins between same =
+      → IsPrefix longest (publication_of state.shower).list → area ≡ state.area → Closes shown passes area
+  closes shown book passes state area longest paired whole begins on same =
       let last = has_map row_in passes whole.longest.0 whole.longest.1 in
       record {
         opening = whole.first.opening;
@@ -140,8 +121,8 @@ module _ {D : Type 0} where
               front = fits.begins;
               mine = sym (calls_are one.0.known.node whole.log) ∙ fits.mine;
               shown =
-                  subst (OneBegins one.0.known.shown) whole.stands_for.index.list
-                  (one_begins one.0.known.shown longest (publication_of state.shower).list (all_has (λ (p : PassView). IsPrefix p.known.shown longest) passes one.0 begins one.1) between);
+                  subst (Begins one.0.known.shown) whole.stands_for.index.list
+                  (begins_of one.0.known.shown (publication_of state.shower).list (prefix_trans one.0.known.shown longest (publication_of state.shower).list (all_has (λ (p : PassView). IsPrefix p.known.shown longest) passes one.0 begins one.1) on));
             };
         others = λ node none. sym (calls_are node whole.log) ∙ whole.others node (λ has. none (to_known passes node has));
         longest = (last.0.known, map_has (λ (p : PassView). p.known) passes last.0 last.1, ap (λ (r : SeatRow). r.front) last.2 ∙ whole.longest.2);

@@ -1,5 +1,5 @@
 -- A step of a pack, as a pack that was stopped or wanted memory; and what the steps make of what a pass knows.
-use Rattle.std.proofs.Common.{◌≡◌, inl, inr, ℕ, ◌+◌, ◌*◌, ◌/◌, ◌<◌, ◌≤◌, Bool, true, false, MatchBool, List, [], ◌∷◌, ◌++◌, length, Option, None, Some, Result, Ok, Err, is_some, IfSome, nat_lt, ltb-true, ltb-false, ◌^◌, refl, sym, ◌∙◌, ap, subst, arith}
+use Rattle.std.proofs.Common.{◌≡◌, inl, inr, ℕ, ◌+◌, ◌*◌, ◌/◌, ◌<◌, Bool, true, false, List, [], ◌∷◌, ◌++◌, length, Option, None, Some, Result, Ok, Err, is_some, IfSome, nat_lt, ltb-true, ltb-false, ◌^◌, refl, sym, ◌∙◌, ap, subst, arith}
 use Rattle.std.proofs.lemmas.Bool.{false≢true}
 use Rattle.jb_area.specs.Area.{IsDoubtful, IsResting, copied_of, loaded_of, packs_in, packs_of, packs_to, rules_of}
 use Rattle.jb_area.specs.Calls.{FailsWith, HasRest, MeetsCall, StepsPack}
@@ -36,7 +36,7 @@ use Rattle.jb_shared.specs.Stepping.{CopiesOnePart, HasTaken, LeavesAs, MayCopy,
 use Rattle.jb_shared.specs.declared.error.SharedError.{SharedError}
 use Rattle.jb_shared.specs.declared.opening.Opening.{Opening}
 use Rattle.jb_shared.specs.declared.refusal.Refusal.{Refusal}
-use Rattle.jb_shared.specs.declared.refusal.Refusal.TheVariants.{Gap, Spent, Stepped}
+use Rattle.jb_shared.specs.declared.refusal.Refusal.TheVariants.{Spent, Stepped}
 use Rattle.jb_shared.specs.declared.shown.ShownArea.{ShownArea}
 use Rattle.jb_shared.proofs.CallLemmas.{calls_through, leads_behind, leads_still}
 use Rattle.jb_shared.proofs.IndexLemmas.{unchanged_no_change}
@@ -134,11 +134,6 @@ ok_value (Err error) = false
 pub none_more : {E : Type 0} (result : Result Bool E) (more : Bool) → result ≡ Ok more → result ≡ Ok false → more ≡ false
 none_more {E} result more is none = ap (ok_value {E = E}) (sym is ∙ none)
 
--- a test of two lengths by its answer
-pub no_more : (answer : Bool) (shown settled : ℕ) → MatchBool answer (shown ≤ settled) (settled < shown) → shown ≤ settled → answer ≡ true
-no_more true shown settled is fits = refl
-no_more false shown settled is fits = absurd (omega (arith, is, fits))
-
 -- a step keeps the mark, and what was seen as a beginning
 pub step_keeps : {T : Type 0} (old new : SeatRow) (user : User) (moment : ℕ) (result : Result T SharedError) → RunsStep old new user moment result → (new.opening ≡ old.opening) × Begins old.front new.front
 step_keeps old new user moment (Ok value) is = (ap (λ (r : SeatRow). r.opening) is, subst (λ (r : SeatRow). Begins old.front r.front) (sym is) (begins_itself old.front))
@@ -202,7 +197,6 @@ asks_steps old mid new steps user moment command result taken asks = asks_from (
 -- steps that each left a text, and one more that does
 pub left_push : (steps : List Refusal) (bytes : ℕ) → AreLeft steps → AreLeft (steps ++ Stepped (Some bytes) ∷ [])
 left_push [] bytes left = tt
-left_push (Gap shown held ∷ steps) bytes left = absurd left
 left_push (Spent ∷ steps) bytes left = absurd left
 left_push (Stepped None ∷ steps) bytes left = absurd left
 left_push (Stepped (Some first) ∷ steps) bytes left = left_push steps bytes left
@@ -279,12 +273,12 @@ module _ {D : Type 0} (shown : D → Device) where
       subst (λ (l : Loaded). texts_size l.slots < 2 ^ 64) (sym same) (texts_small (rules_of area).slots (loaded_of area) rest.rests.kept.ruled.sound rest.rests.kept.ruled.few_slots)
 
   -- what a step of a pack says that it left
-  pub leaves_as : (old : OpenArea D) (held : Held (ShownArea D)) (list : List Entry) (user : User) (more : Bool) (left : Option ℕ) (rest : HasRest shown old) → (loaded_of held.state.area) ≡ (loaded_of old)
+  pub leaves_as : (old : OpenArea D) (held : Held (ShownArea D)) (user : User) (more : Bool) (left : Option ℕ) (rest : HasRest shown old) → (loaded_of held.state.area) ≡ (loaded_of old)
       → is_some left ≡ more → IfSome left (λ bytes. bytes ≡ texts_size (loaded_of held.state.area).slots)
       → ((texts : List ℕ) → IsResting shown old texts → is_pack_refused (rules_of old) texts (loaded_of old) user ≡ true → (more ≡ false) × (held.state.area ≡ old))
       → ((texts : List ℕ) → IsResting shown old texts → is_pack_refused (rules_of old) texts (loaded_of old) user ≡ false → HasCopiedSome PACK_STEP_BYTES (loaded_of old).slots (copied_of old) (copied_of held.state.area) more)
-      → LeavesAs shown held list user left
-  leaves_as old held list user more (Some bytes) rest same is bytes_are stays copies = (some_left (is_pack_refused (rules_of old) rest.texts (loaded_of old) user) refl, bytes_are)
+      → LeavesAs shown held user left
+  leaves_as old held user more (Some bytes) rest same is bytes_are stays copies = (some_left (is_pack_refused (rules_of old) rest.texts (loaded_of old) user) refl, bytes_are)
     where
       new : OpenArea D
       new = held.state.area
@@ -292,12 +286,12 @@ module _ {D : Type 0} (shown : D → Device) where
       some_left : (refused : Bool) → is_pack_refused (rules_of old) rest.texts (loaded_of old) user ≡ refused → 0 < uncopied new
       some_left true refused = absurd (false≢true (sym (is ∙ (stays rest.texts rest.rests refused).0)))
       some_left false refused = ltb-true 0 (uncopied new) (sym (is ∙ says_left old new more same (copies rest.texts rest.rests refused)))
-  leaves_as old held list user more None rest same is bytes_are stays copies = λ may. none_left may (is_pack_refused (rules_of old) rest.texts (loaded_of old) user) refl
+  leaves_as old held user more None rest same is bytes_are stays copies = λ may. none_left may (is_pack_refused (rules_of old) rest.texts (loaded_of old) user) refl
     where
       new : OpenArea D
       new = held.state.area
 
-      none_left : MayCopy shown held list user → (refused : Bool) → is_pack_refused (rules_of old) rest.texts (loaded_of old) user ≡ refused → uncopied new ≡ 0
+      none_left : MayCopy shown held user → (refused : Bool) → is_pack_refused (rules_of old) rest.texts (loaded_of old) user ≡ refused → uncopied new ≡ 0
       none_left may true refused =
           let still = (stays rest.texts rest.rests refused).1 in
           no_left (uncopied new)

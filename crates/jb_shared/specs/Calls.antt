@@ -15,7 +15,7 @@ use Rattle.jb_shared.specs.Histories.{IsHistory, settled_of}
 use Rattle.jb_shared.specs.Stops.{ended}
 use Rattle.jb_shared.specs.Passes.{Known, refusing, seen, stepping}
 use Rattle.jb_shared.specs.declared.error.SharedError.{SharedError}
-use Rattle.jb_shared.specs.declared.error.SharedError.TheVariants.{StoreFault, Gap, RunSpent, OutOfMemory}
+use Rattle.jb_shared.specs.declared.error.SharedError.TheVariants.{StoreFault, RunSpent, OutOfMemory}
 use Rattle.jb_shared.specs.declared.opening.Opening.{Opening}
 use Rattle.jb_shared.specs.declared.refusal.Refusal.{Refusal}
 use Rattle.jb_shared.specs.declared.refusal.Refusal.TheVariants as refusal
@@ -53,36 +53,27 @@ Performs old new user moment command result =
     ⊎ ((result ≡ Err StoreFault) × IsStoppedCall old new user moment command)
 
 -- what is known before, with the whole history taken, and after, by the answer: what looks showed and how often they were not let in
--- stays. A pass that was shown more entries than are settled of the history, and a history that is spent, leave no entry at all
+-- stays. A history that is spent leaves no entry at all
 abbrev pub Answers : Known → Known → User → ℕ → Command → Result Reply SharedError → Type 0
 Answers old new user moment command (Err StoreFault) = (length old.front < MOST_ENTRIES) × IsStoppedCall old new user moment command
-Answers old new user moment command (Err (Gap shown held)) = (length old.front < MOST_ENTRIES)
-    × ((shown ≡ length old.shown) × (held ≡ length (settled_of old.front)) × (new ≡ refusing old (refusal.Gap shown held)))
 Answers old new user moment command (Err RunSpent) = (MOST_ENTRIES ≤ length old.front) × (new ≡ refusing old refusal.Spent)
 Answers old new user moment command result = (length old.front < MOST_ENTRIES)
     × ((ended : Option Bool) × Runs (ending old ended) new (call_of old.node old.mine user moment command) result)
 
--- how what was shown stands to what is settled of the history that was taken, by the answer: it is a beginning of that; a gap comes
--- just where it is not, and then it goes on from all of that; where the history is spent nothing is known of the two
-abbrev pub IsShownFrom : List Entry → List Entry → Result Reply SharedError → Type 0
-IsShownFrom shown settled (Err (Gap count held)) = Begins settled shown × (length settled < length shown)
-IsShownFrom shown settled (Err RunSpent) = Unit {0}
-IsShownFrom shown settled result = Begins shown settled
-
--- a call in one turn: it takes the whole history, which goes on from what the pass had seen, and leaves a legal one
+-- a call in one turn: it takes the whole history, which goes on from what the pass had seen and has all that its looks showed among what
+-- is settled, and leaves a legal one
 pub record Asks (old new : Known) (user : User) (moment : ℕ) (command : Command) (result : Result Reply SharedError) : Type 0 where
   pub opening : Opening
   pub from : old.opening ≡ Some opening
   pub taken : List Entry
   pub grows : Begins old.front taken
   pub answers : Answers (seen old taken) new user moment command result
-  pub covered : IsShownFrom old.shown (settled_of taken) result
+  pub covered : Begins old.shown (settled_of taken)
   pub history : IsHistory opening new.front
 
 -- behind each of these steps of a pack a text was left to copy
 abbrev pub AreLeft : List Refusal → Type 0
 AreLeft [] = Unit {0}
-AreLeft (refusal.Gap shown held ∷ steps) = ⊥
 AreLeft (refusal.Spent ∷ steps) = ⊥
 AreLeft (refusal.Stepped None ∷ steps) = ⊥
 AreLeft (refusal.Stepped (Some bytes) ∷ steps) = AreLeft steps
@@ -94,7 +85,6 @@ AreLast most steps = ((before : List Refusal) × AreLeft before × (length befor
 -- all steps of a pack: until no text was left, or as many as the texts at the first one may want
 abbrev pub AreSteps : List Refusal → Type 0
 AreSteps [] = ⊥
-AreSteps (refusal.Gap shown held ∷ steps) = ⊥
 AreSteps (refusal.Spent ∷ steps) = ⊥
 AreSteps (refusal.Stepped None ∷ steps) = steps ≡ []
 AreSteps (refusal.Stepped (Some bytes) ∷ steps) = AreLast (2 * (bytes / PACK_STEP_BYTES) + 1) steps

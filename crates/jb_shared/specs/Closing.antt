@@ -1,5 +1,5 @@
 -- What closing a shared area shows.
-use Rattle.std.specs.Prelude.{◌≡◌, ◌⊎◌, ℕ, ◌<◌, ◌≤◌, List, [], map, Some}
+use Rattle.std.specs.Prelude.{◌≡◌, ℕ, ◌<◌, ◌≤◌, List, [], map, Some}
 use Rattle.jb_area.specs.declared.area.OpenArea.{OpenArea}
 use Rattle.jb_disk.specs.Device.{Device}
 use Rattle.jb_model.specs.History.{calls_of}
@@ -28,17 +28,13 @@ HasEachNode all count = (node : ℕ) → 0 < node → node ≤ count → HasNode
 abbrev pub IsLowestMissing : List Known → ℕ → ℕ → Type 0
 IsLowestMissing all count node = (0 < node) × (node ≤ count) × (HasNode all node → ⊥) × ((lower : ℕ) → 0 < lower → lower < node → HasNode all lower)
 
--- one of the two lists begins the other
-abbrev pub OneBegins : List Entry → List Entry → Type 0
-OneBegins one other = Begins one other ⊎ Begins other one
-
--- what a node knows is of this history: a beginning of it is its front, just its calls there are its own, and of what its looks
--- showed and all that is settled the shorter begins the longer
+-- what a node knows is of this history: a beginning of it is its front, just its calls there are its own, and what its looks
+-- showed begins all that is settled
 pub record IsPartOf (opening : Opening) (history : List Entry) (known : Known) : Type 0 where
   pub from : known.opening ≡ Some opening
   pub front : Begins known.front history
   pub mine : calls_of known.node history ≡ known.mine
-  pub shown : OneBegins known.shown (settled_of history)
+  pub shown : Begins known.shown (settled_of history)
 
 -- there is one legal history, for which the area stands: the longest front, of which each pass knows a part; no other node has
 -- a call in it

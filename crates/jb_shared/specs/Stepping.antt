@@ -1,5 +1,5 @@
 -- What the steps of a pack make of what is known, and how much one of them copies.
-use Rattle.std.specs.Prelude.{◌≡◌, ◌⊎◌, ℕ, ◌<◌, ◌≤◌, Bool, false, List, length, Option, None, Some, Result, Ok, Err}
+use Rattle.std.specs.Prelude.{◌≡◌, ◌⊎◌, ℕ, ◌<◌, Bool, false, List, Option, None, Some, Result, Ok, Err}
 use Rattle.jb_area.specs.Area.{IsResting, copied_of, loaded_of, rules_of}
 use Rattle.jb_area.specs.Copying.{HasCopiedSome, begun_of}
 use Rattle.jb_area.specs.declared.area.OpenArea.{OpenArea}
@@ -11,7 +11,6 @@ use Rattle.jb_disk.specs.Device.{Device}
 use Rattle.jb_model.specs.declared.command.Command.TheVariants.{Pack}
 use Rattle.jb_model.specs.declared.entry.Entry.{Entry}
 use Rattle.jb_pack.specs.Shadow.{left}
-use Rattle.jb_publish.specs.Publications.{publication_of}
 use Rattle.jb_state.specs.Packed.{texts_size}
 use Rattle.jb_turn.specs.Rows.{Begins}
 use Rattle.jb_turn.specs.declared.seat.Held.{Held}
@@ -53,22 +52,20 @@ uncopied area = left (begun_of (copied_of area)) (loaded_of area).slots
 
 -- of a disk that shows itself so
 module _ {D : Type 0} (shown : D → Device) where
-  -- a pack of this user may copy texts in the turn of a pass that was shown this list: the history is not spent, the list is no
-  -- longer than what is settled, the area is at rest, and the pack is not refused
-  pub record MayCopy (held : Held (ShownArea D)) (list : List Entry) (user : User) : Type 0 where
+  -- a pack of this user may copy texts: the history is not spent, the area is at rest, and the pack is not refused
+  pub record MayCopy (held : Held (ShownArea D)) (user : User) : Type 0 where
     pub room : held.count < MOST_ENTRIES
-    pub covered : length list ≤ length (publication_of held.state.shower).list
     pub texts : List ℕ
     pub rests : IsResting shown held.state.area texts
     pub allowed : is_pack_refused (rules_of held.state.area) texts (loaded_of held.state.area) user ≡ false
 
   -- what a step of a pack says behind it: the bytes of all live texts, where one is left to copy; or none, where all are copied
   -- or none may be
-  abbrev pub LeavesAs : Held (ShownArea D) → List Entry → User → Option ℕ → Type 0
-  LeavesAs held list user None = MayCopy held list user → uncopied held.state.area ≡ 0
-  LeavesAs held list user (Some bytes) = (0 < uncopied held.state.area) × (bytes ≡ texts_size (loaded_of held.state.area).slots)
+  abbrev pub LeavesAs : Held (ShownArea D) → User → Option ℕ → Type 0
+  LeavesAs held user None = MayCopy held user → uncopied held.state.area ≡ 0
+  LeavesAs held user (Some bytes) = (0 < uncopied held.state.area) × (bytes ≡ texts_size (loaded_of held.state.area).slots)
 
   -- the remark is none of a step, or what a step of a pack of this user says
-  abbrev pub TellsLeft : Held (ShownArea D) → List Entry → User → Option Refusal → Type 0
-  TellsLeft held list user (Some (Stepped left)) = LeavesAs held list user left
-  TellsLeft held list user _ = Unit {0}
+  abbrev pub TellsLeft : Held (ShownArea D) → User → Option Refusal → Type 0
+  TellsLeft held user (Some (Stepped left)) = LeavesAs held user left
+  TellsLeft held user _ = Unit {0}

@@ -50,20 +50,6 @@ impl<D: Disk> SharedArea<D> {
             );
             return (parts, Err(SharedError::RunSpent));
         }
-        if !held.state.shower.covers(&reader) {
-            let shown = reader.entries();
-            let settled = held.state.shower.entries();
-            let remark = Refusal::Gap {
-                shown,
-                held: settled,
-            };
-            let parts = end(&self.turn, seat, held, reader, call.user, Some(remark));
-            let gap = SharedError::Gap {
-                shown,
-                held: settled,
-            };
-            return (parts, Err(gap));
-        }
         let was_in_doubt = held.state.area.in_doubt();
         let (held, answer) = perform(rt, alloc, &self.turn, &mut seat, held, call);
         *has_settled = was_in_doubt && !held.state.area.in_doubt();

@@ -1,5 +1,5 @@
 //! A shared area ends with all its passes.
-ghost use Rattle.std.specs.Prelude.{◌≡◌, ◌⊎◌, All, IfErr, IfOk, OnOk};
+ghost use Rattle.std.specs.Prelude.{◌≡◌, All, IfErr, IfOk, OnOk};
 ghost use mathlib.Core.List.{IsPrefix};
 ghost use Rattle.jb_publish.specs.Fronts.{book_of, known_list};
 ghost use Rattle.jb_publish.specs.Pairs.{IsIn};
@@ -52,19 +52,18 @@ fn longest_shown(origin: &Front<Entry>, passes: &[Pass]) -> Front<Entry>
     longest
 }
 
-/// Ends what looks see, and gives the area. Of what was shown to looks last and this list, the shorter begins the longer.
+/// Ends what looks see, and gives the area. This list begins what was shown to looks last.
 fn end<D: Disk, R: Wait>(rt: &R, state: ShownArea<D>, longest: &Front<Entry>) -> OpenArea<D>
     requires pair { IsIn (publication_of state.shower).mark longest.now }
     ensures area { result ≡ state.area }
-    ensures begins { IsPrefix (known_list longest.now) (publication_of state.shower).list
-        ⊎ IsPrefix (publication_of state.shower).list (known_list longest.now) }
+    ensures begins { IsPrefix (known_list longest.now) (publication_of state.shower).list }
 {
     let ShownArea {
         area,
         shower,
         doubted: _,
     } = state;
-    shower.tell().covers(longest);
+    shower.leads(rt, longest);
     shower.close(rt);
     area
 }

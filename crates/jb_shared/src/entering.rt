@@ -5,6 +5,7 @@ ghost use Rattle.jb_publish.specs.Accounts.{account_of, told_with};
 ghost use Rattle.jb_turn.specs.Rows.{Begins, StandsFrom};
 ghost use Rattle.jb_turn.specs.Seats.{front, id_of, opening, resting_row, resting_turn, row_of, HoldsTurn};
 ghost use Rattle.jb_turn.specs.Steps.{given, sighted};
+ghost use Rattle.jb_shared.specs.Histories.{settled_of};
 ghost use Rattle.jb_shared.specs.InTurn.{IsBehind, IsOut, IsToldOf};
 ghost use Rattle.jb_shared.specs.Keeping.{IsKept};
 ghost use Rattle.jb_shared.specs.Stepping.{LeavesAs, TellsLeft};
@@ -41,7 +42,8 @@ impl<D: Disk> SharedArea<D> {
         ensures took { row_of result.seat ≡ sighted (resting_row parts.seat) (front result.seat) }
         ensures grows { Begins (resting_row parts.seat).front (front result.seat) }
 
-        // The end that looks was told all that is settled of it, and all else of it stays.
+        // What looks showed begins all that is settled of it. The end that looks was told that, and all else of it stays.
+        ensures shown { Begins (account_of parts.reader).shown (settled_of (front result.seat)) }
         ensures told { IsToldOf (row_of result.seat) (account_of result.reader) }
         ensures account { (list : List Entry)
             × (account_of result.reader ≡ told_with (account_of parts.reader) list) }
@@ -49,6 +51,7 @@ impl<D: Disk> SharedArea<D> {
         let Parts { seat, mut reader } = parts;
         let mut seat: AreaSeat<D> = seat.wake();
         let held = self.turn.take(rt, &mut seat);
+        held.state.shower.leads(rt, &reader.seen());
         inform(&held.state.shower, &mut reader);
         Entered { seat, held, reader }
     }
@@ -66,12 +69,12 @@ pub(crate) fn end<D: Disk>(
     requires seat { HoldsTurn turn.now seat held.count }
     requires stands { StandsFrom (IsKept D.device) (opening seat) held.state (front seat) }
     requires told { IsToldOf (row_of seat) (account_of reader) }
-    requires left { TellsLeft D.device held (account_of reader).shown user.now remark }
+    requires left { TellsLeft D.device held user.now remark }
     ensures here { resting_turn result.seat ≡ id_of turn.now }
     ensures row { resting_row result.seat ≡ given (row_of seat) remark }
     ensures account { account_of result.reader ≡ account_of reader }
 {
-    give::<D, Brand>(turn, &mut seat, held, &reader, user, remark);
+    give::<D, Brand>(turn, &mut seat, held, user, remark);
     let seat = seat.rest();
     Parts { seat, reader }
 }
@@ -87,7 +90,7 @@ pub(crate) fn leave<D: Disk>(
 ) -> Parts
     requires out { IsOut (IsKept D.device) turn.now seat held }
     requires told { IsBehind (row_of seat) (account_of reader) }
-    requires left { TellsLeft D.device held (account_of reader).shown user.now remark }
+    requires left { TellsLeft D.device held user.now remark }
     ensures here { resting_turn result.seat ≡ id_of turn.now }
     ensures row { resting_row result.seat ≡ given (row_of seat) remark }
     ensures account { (list : List Entry) × (account_of result.reader ≡ told_with (account_of reader) list) }
@@ -107,7 +110,7 @@ pub(crate) fn leave_stepped<D: Disk>(
 ) -> Parts
     requires out { IsOut (IsKept D.device) turn.now seat held }
     requires told { IsBehind (row_of seat) (account_of reader) }
-    requires left { LeavesAs D.device held (account_of reader).shown user.now left }
+    requires left { LeavesAs D.device held user.now left }
     ensures here { resting_turn result.seat ≡ id_of turn.now }
     ensures row { resting_row result.seat ≡ given (row_of seat) (Some (Stepped left)) }
     ensures account { (list : List Entry) × (account_of result.reader ≡ told_with (account_of reader) list) }

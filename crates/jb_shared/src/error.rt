@@ -6,8 +6,6 @@ pub enum SharedError {
     /// The device failed. The call is recorded, and the area is in doubt whether its change stands; or the area was in doubt
     /// and could not be reopened, and the call was not begun.
     StoreFault,
-    /// The looks of the pass have shown `shown` entries, and `held` are settled of the history, which is fewer. Nothing was done.
-    Gap { shown: u64, held: u64 },
     /// The history has as many entries as it may have. Nothing was done.
     RunSpent,
     /// The allocator gave no memory. The area is as it was, but that a doubt may have been ended, and texts copied for a pack.

@@ -6,13 +6,11 @@ ghost use Rattle.jb_shared.specs.Keeping.{IsKept};
 ghost use Rattle.jb_shared.specs.Noting.{entry_of};
 ghost use Rattle.jb_shared.specs.Standing.{caller_of};
 ghost use Rattle.jb_shared.specs.Stepping.{TellsLeft};
-ghost use Rattle.jb_publish.specs.Accounts.{account_of};
 ghost use Rattle.jb_turn.specs.Rows.{StandsFrom};
 ghost use Rattle.jb_turn.specs.Seats.{front, opening, row_of, HoldsTurn, Rests};
 ghost use Rattle.jb_turn.specs.Steps.{given, noted};
 
 use crate::call::Call;
-use crate::published::IndexReader;
 use crate::refusal::Refusal;
 use crate::shared::{AreaSeat, AreaTurn};
 use crate::shown::ShownArea;
@@ -49,17 +47,16 @@ pub(crate) fn note<D: Disk, J: NamesEntry<Entry>>(
     turn.note::<J>(seat, held);
 }
 
-/// Gives the area back with this remark, or with none, in the turn of a pass that looks by this reader, behind a call of this user.
+/// Gives the area back with this remark, or with none, behind a call of this user.
 pub(crate) fn give<D: Disk, J: NamesRemark<Refusal>>(
     turn: &AreaTurn<D>,
     seat: &mut AreaSeat<D>,
     held: Held<ShownArea<D>>,
-    reader: &IndexReader,
     user: &User,
     remark: Option<Refusal>,
 )
     requires remark { J.remark ≡ remark }
-    requires left { TellsLeft D.device held (account_of reader.now).shown user.now remark }
+    requires left { TellsLeft D.device held user.now remark }
     requires seat { HoldsTurn turn.now seat.old held.count }
     requires stands { StandsFrom (IsKept D.device) (opening seat.old) held.state (front seat.old) }
     ensures rests { Rests turn.now seat.new }

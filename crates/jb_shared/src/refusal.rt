@@ -3,8 +3,6 @@
 /// How a turn of a pass ended that left no entry in the history. It is kept in proofs alone.
 #[derive(Clone, Copy)]
 pub enum Refusal {
-    /// The pass was shown more entries than are settled of the history.
-    Gap { shown: u64, held: u64 },
     /// The history has as many entries as it may have.
     Spent,
     /// It was a step of a pack: so many bytes the texts of the area have then, where one is left to copy; none, where none is left,

@@ -1,13 +1,9 @@
 //! A pack by steps: its texts are copied in turns of their own, and the calls of others go in between.
-ghost use Rattle.std.specs.Prelude.{◌≡◌, ◌<◌, ◌≤◌, ◌+◌, ◌*◌, ◌/◌, ◌^◌, IfOk, IfSome, IsTrue, List, is_some, length};
-ghost use mathlib.Core.List.{IsPrefix};
+ghost use Rattle.std.specs.Prelude.{◌≡◌, ◌<◌, ◌≤◌, ◌+◌, ◌*◌, ◌/◌, ◌^◌, IfOk, IfSome, IsTrue, is_some, length};
 ghost use Rattle.jb_area.specs.Area.{HasDoubt, loaded_of};
 ghost use Rattle.jb_area.specs.Calls.{HasRest};
 ghost use Rattle.jb_limits.specs.declared.limits.TheConstants.{MOST_ENTRIES};
 ghost use Rattle.jb_pack.specs.declared.run.TheConstants.{PACK_STEP_BYTES};
-ghost use Rattle.jb_model.specs.declared.entry.Entry.{Entry};
-ghost use Rattle.jb_publish.specs.Accounts.{account_of};
-ghost use Rattle.jb_publish.specs.Publications.{publication_of};
 ghost use Rattle.jb_state.specs.Packed.{slot_text_size, texts_size};
 ghost use Rattle.jb_turn.specs.Seats.{id_of, resting_row, resting_turn, row_of};
 ghost use Rattle.jb_shared.specs.InTurn.{IsOut, LeavesInTurn};
@@ -20,7 +16,6 @@ use crate::call::Call;
 use crate::entering::{Entered, leave, leave_stepped};
 use crate::noting::{Noted, note};
 use crate::parts::Parts;
-use crate::published::IndexReader;
 use crate::shared::{AreaSeat, AreaTurn};
 use crate::shown::ShownArea;
 use crate::{SharedArea, SharedError};
@@ -78,27 +73,15 @@ fn turns_behind(bytes: u64) -> u64
     2 * (bytes / PACK_STEP_BYTES as u64) + 1
 }
 
-/// Whether texts may be copied in this turn. Where the history is spent, the area in doubt or the pass was shown more than is
-/// settled, the call itself says so.
-fn may_step<D: Disk>(held: &Held<ShownArea<D>>, reader: &IndexReader) -> bool
-    requires mark { (account_of reader.now).mark ≡ (publication_of held.now.state.shower).mark }
+/// Whether texts may be copied in this turn. Where the history is spent or the area in doubt, the call itself says so.
+fn may_step<D: Disk>(held: &Held<ShownArea<D>>) -> bool
     ensures room { IsTrue result → held.now.count < MOST_ENTRIES }
     ensures settled { IsTrue result → HasDoubt D.device held.now.state.area → ⊥ }
-    ensures covers { IsTrue result → IsPrefix (account_of reader.now).shown
-        (publication_of held.now.state.shower).list }
 
-    // Where none of these bars it, it may.
-    ensures may { held.now.count < MOST_ENTRIES → HasRest D.device held.now.state.area
-        → length (account_of reader.now).shown ≤ length (publication_of held.now.state.shower).list
-        → IsTrue result }
+    // Where neither bars it, it may.
+    ensures may { held.now.count < MOST_ENTRIES → HasRest D.device held.now.state.area → IsTrue result }
 {
-    if held.count >= MOST_ENTRIES {
-        return false;
-    }
-    if held.state.area.in_doubt() {
-        return false;
-    }
-    held.state.shower.covers(reader)
+    held.count < MOST_ENTRIES && !held.state.area.in_doubt()
 }
 
 /// Copies a part of the texts of the area at rest, `PACK_STEP_BYTES` at most, and answers whether one is left, with the bytes of all.
@@ -117,9 +100,7 @@ fn copy_part<D: Disk>(
     ensures copied { IfOk result.1 (λ left.
         CopiesOnePart held.state.area result.0.state.area (is_some left)) }
 
-    // It is answered what is left, whatever the pass was shown.
-    ensures left { IfOk result.1 (λ left. (list : List Entry)
-        → LeavesAs D.device result.0 list user.now left) }
+    ensures left { IfOk result.1 (λ left. LeavesAs D.device result.0 user.now left) }
     ensures crash { LeavesInTurn D.device held.state.area result.0.state.area (row_of seat.old) (row_of seat.new) }
 {
     let mut held = held;
@@ -162,7 +143,7 @@ impl<D: Disk> SharedArea<D> {
             held,
             reader,
         } = self.enter(rt, parts);
-        if !may_step(&held, &reader) {
+        if !may_step(&held) {
             return (
                 leave_stepped(&self.turn, seat, held, reader, user, None),
                 Ok(None),

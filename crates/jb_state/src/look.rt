@@ -39,8 +39,6 @@ impl Drop for Answer {
 pub enum SharedFault {
     /// The device failed in the call; the area is in doubt.
     StoreFault,
-    /// The user was shown `shown` entries of the history, and its longest settled beginning has `held`.
-    Gap { shown: u64, held: u64 },
     /// The history has as many entries as it may have.
     RunSpent,
     /// The published copies are not open to this user, so that nothing is answered; a later call may be.

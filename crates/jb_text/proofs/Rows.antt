@@ -74,7 +74,7 @@ lines_of_pages : (page_line_text 1 (codes "hi") ≡ codes "Page from node 1: hi"
 unfolding digits
 lines_of_pages = (refl, refl, refl, refl)
 
--- replies, refusals and faults with numbers in them
+-- replies and refusals with numbers in them, and faults
 answer_lines : (reply_text (reply.Posted 2) ≡ codes "Posted as 2.") × (reply_text (reply.Killed 16777215) ≡ codes "Killed 16777215.")
     × (reply_text (reply.Marked 3 5) ≡ codes "Mark is 3, high 5.") × (reply_text (reply.Packed 1 20 300) ≡ codes "Packed: base 1, live 20, dropped 300.")
     × (reply_text (reply.Relinked 0) ≡ codes "Relinked: 0 changed.") × (reply_text (reply.Denied A5) ≡ codes "Denied by rule A5.")
@@ -82,7 +82,7 @@ answer_lines : (reply_text (reply.Posted 2) ≡ codes "Posted as 2.") × (reply_
     × (reply_text (reply.SlotsFull 65000) ≡ codes "Area full: 65000 slots.") × (reply_text (reply.NumbersSpent 16777216) ≡ codes "Numbers spent at 16777216.")
     × (reply_text (reply.Edited 1) ≡ codes "Edited 1.") × (reply_text (reply.Denied A6) ≡ codes "Denied by rule A6.")
     × (reply_text (reply.SubfieldsFull 262145) ≡ codes "Subfields full: 262145 bytes.")
-    × (fault_text (fault.Gap 9 7) ≡ codes "Gap: shown 9, held 7.") × (fault_text fault.Barred ≡ codes "Index not open, try again.")
+    × (fault_text fault.RunSpent ≡ codes "History full.") × (fault_text fault.Barred ≡ codes "Index not open, try again.")
 unfolding digits
 answer_lines = (refl, refl, refl, refl, refl, refl, refl, refl, refl, refl, refl, refl, refl, refl, refl)
 

@@ -162,9 +162,6 @@ pub fn fault(alloc: Global, fault: &SharedFault) -> Result<Bytes, OutOfMemory>
 {
     match fault {
         SharedFault::StoreFault => Bytes::copy(alloc, b"Store fault: the change is in doubt."),
-        SharedFault::Gap { shown, held } => {
-            two_numbers(alloc, b"Gap: shown ", *shown, b", held ", *held)
-        }
         SharedFault::RunSpent => Bytes::copy(alloc, b"History full."),
         SharedFault::Barred => Bytes::copy(alloc, b"Index not open, try again."),
     }

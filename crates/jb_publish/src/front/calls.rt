@@ -16,13 +16,6 @@ impl<E> Front<E> {
         }
     }
 
-    /// How many entries the list has.
-    pub fn entries(&self) -> u64
-        ensures { result ≡ length (known_list self.now) }
-    {
-        self.count
-    }
-
     /// Shows that this list begins the other, which is no shorter.
     pub(crate) fn begins(&self, other: &Front<E>)
         requires { (book_of self.now ≡ book_of other.now) × (self.now.count ≤ other.now.count) }

@@ -1,11 +1,8 @@
-use Rattle.std.proofs.Common.{◌∙◌, ap, subst, sym, List}
-use Rattle.jb_model.specs.declared.entry.Entry.{Entry}
-use Rattle.jb_publish.specs.Accounts.{Account, account_of}
+use Rattle.std.proofs.Common.{◌∙◌}
+use Rattle.jb_publish.specs.Accounts.{account_of}
 use Rattle.jb_publish.specs.Publications.{publication_of}
 use Rattle.jb_turn.specs.Seats.{row_of}
 use Rattle.jb_shared.proofs.CallLemmas.{is_informed, may_inform, same_pair}
-use Rattle.jb_shared.specs.Stepping.{TellsLeft}
-use Rattle.jb_shared.specs.declared.opening.Opening.{Opening}
 use Rattle.jb_shared.proofs.entering.leave.Goals as goal
 
 pub inform-requires-clause-mark : goal.inform-requires-clause-mark
@@ -17,10 +14,6 @@ inform-requires-clause-grown g c = may_inform g.D.Disk.device (row_of c.args.sea
 pub end-requires-clause-told : goal.end-requires-clause-told
 end-requires-clause-told g c =
     is_informed g.D.Disk.device (row_of c.args.seat) (account_of c.args.reader) (account_of c.inform.new.reader) c.args.held.state c.requires.told.0 c.requires.out.knows.stands_for c.inform.ensures
-
-pub end-requires-clause-left : goal.end-requires-clause-left
-end-requires-clause-left g c =
-    subst (λ (list : List Entry). TellsLeft g.D.Disk.device c.args.held list c.args.user.now c.args.remark) (sym (ap (λ (a : Account Opening Entry). a.shown) c.inform.ensures)) c.requires.left
 
 pub returns-clause-account : goal.returns-clause-account
 returns-clause-account g c = ((publication_of c.args.held.state.shower).list, c.end.ensures.account ∙ c.inform.ensures)

@@ -48,11 +48,11 @@ bytes_where_left-left-requires g c =
     texts_few g.D.Disk.device c.args.held.state.area c.pack_some.new.self (out_rests g.D.Disk.device c.args.held.state (row_of c.args.seat.now) c.requires.out.0.knows) c.pack_some.ensures.steps.loaded
 
 pub returns-in-Ok-clause-left : goal.returns-in-Ok-clause-left
-returns-in-Ok-clause-left g c = λ list.
+returns-in-Ok-clause-left g c =
     let old = c.args.held.state in
     let rest = out_rests g.D.Disk.device old (row_of c.args.seat.now) c.requires.out.0.knows in
     let more = c.in-Ok.more in
-    leaves_as g.D.Disk.device old.area (record { state = record { area = c.pack_some.new.self; shower = old.shower; doubted = old.doubted }; count = c.args.held.count }) list c.args.user.now more c.bytes_where_left-left.result rest
+    leaves_as g.D.Disk.device old.area (record { state = record { area = c.pack_some.new.self; shower = old.shower; doubted = old.doubted }; count = c.args.held.count }) c.args.user.now more c.bytes_where_left-left.result rest
     c.pack_some.ensures.steps.loaded c.bytes_where_left-left.ensures.some c.bytes_where_left-left.ensures.bytes
     (λ texts rests refused. let none = c.pack_some.ensures.refused texts rests refused in (none_more c.pack_some.result more c.in-Ok.is none.0, none.1))
     c.in-Ok.ensures.copied

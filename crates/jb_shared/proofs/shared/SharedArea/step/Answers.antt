@@ -1,29 +1,21 @@
-use Rattle.std.proofs.Common.{◌≡◌, ℕ, List, None, Option, Some, Result, Err, IfOk, ap, arith, refl, subst, sym, ◌∙◌}
-use mathlib.Core.List.{IsPrefix}
+use Rattle.std.proofs.Common.{◌≡◌, ℕ, None, Option, Some, Result, Err, IfOk, ap, arith, refl, subst, sym, ◌∙◌}
+use Rattle.std.proofs.lemmas.Bool.{false≢true}
 use Rattle.jb_model.specs.declared.command.Command.TheVariants.{Pack}
-use Rattle.jb_model.specs.declared.entry.Entry.{Entry}
-use Rattle.jb_publish.specs.Accounts.{Account, account_of}
+use Rattle.jb_publish.specs.Accounts.{account_of}
 use Rattle.jb_turn.specs.Seats.{front, resting_row, row_of}
 use Rattle.jb_turn.specs.Steps.{given}
 use Rattle.jb_shared.specs.Calls.{Asks}
-use Rattle.jb_shared.specs.Histories.{settled_of}
 use Rattle.jb_shared.specs.InTurn.{SeatRow}
 use Rattle.jb_shared.specs.Inside.{known_in}
 use Rattle.jb_shared.specs.Passes.{Known, refusing}
 use Rattle.jb_shared.specs.Stepping.{HasTaken, LeavesAs, RunsStep}
 use Rattle.jb_shared.specs.declared.error.SharedError.{SharedError}
-use Rattle.jb_shared.specs.declared.opening.Opening.{Opening}
 use Rattle.jb_shared.specs.declared.refusal.Refusal.TheVariants.{Stepped}
-use Rattle.jb_shared.proofs.CallLemmas.{given_none, known_after, same_pair, still_told}
-use Rattle.jb_shared.proofs.KeepingLemmas.{fits, out_settled}
-use Rattle.jb_shared.proofs.SettledLemmas.{begins_itself, begins_of}
+use Rattle.jb_shared.proofs.CallLemmas.{given_none, known_after, still_told}
+use Rattle.jb_shared.proofs.KeepingLemmas.{out_settled}
+use Rattle.jb_shared.proofs.SettledLemmas.{begins_itself}
 use Rattle.jb_shared.proofs.SteppingLemmas.{step_keeps, stepped_in, stopped_in}
 use Rattle.jb_shared.proofs.shared.SharedArea.step.Goals as goal
-
-pub may_step-requires : goal.may_step-requires
-may_step-requires g c =
-    let at = c.enter-seat in
-    record { mark = same_pair g.D.Disk.device (row_of at.result.seat) (account_of at.result.reader) at.result.held.state at.ensures.told.0 at.ensures.out.knows.stands_for }
 
 pub leave_stepped-requires-clause-told : goal.leave_stepped-requires-clause-told
 leave_stepped-requires-clause-told g c =
@@ -63,8 +55,7 @@ leave_stepped-requires-in-Ok-clause-told g c =
 
 pub leave_stepped-requires-in-Ok-clause-left : goal.leave_stepped-requires-in-Ok-clause-left
 leave_stepped-requires-in-Ok-clause-left g c =
-    (subst (λ (r : Result (Option ℕ) SharedError). IfOk r (λ left. (list : List Entry) → LeavesAs g.D.Disk.device c.copy_part-held.result.0 list c.args.user.now left)) c.in-Ok.is c.copy_part-held.ensures.left)
-    (account_of c.enter-seat.result.reader).shown
+    (subst (λ (r : Result (Option ℕ) SharedError). IfOk r (λ left. LeavesAs g.D.Disk.device c.copy_part-held.result.0 c.args.user.now left)) c.in-Ok.is c.copy_part-held.ensures.left)
 
 pub leave-requires-clause-told : goal.leave-requires-clause-told
 leave-requires-clause-told g c =
@@ -95,7 +86,6 @@ returns-in-Err-clause-steps g c =
     let list = front at.result.seat in
     let taken = row_of at.result.seat in
     let new = row_of c.copy_part-held.new.seat in
-    let fit = fits g.D.Disk.device taken.opening at.result.held.state list at.ensures.out.knows.stands_for in
     let may = c.if-not-may_step.ensures in
     subst (λ (k : Known). Asks (known_in c.args.parts) k c.args.user.now c.args.moment Pack (Err c.in-Err.error))
     (sym (known_after new (resting_row c.leave.result.seat) account told (account_of c.leave.result.reader) at.ensures.account.0 c.leave.ensures.account.0 (c.leave.ensures.row ∙ given_none new) at.ensures.account.1 c.leave.ensures.account.1))
@@ -103,5 +93,7 @@ returns-in-Err-clause-steps g c =
     at.ensures.grows at.ensures.out.knows.stands_for
     (subst (λ (r : Result (Option ℕ) SharedError). RunsStep taken new c.args.user.now c.args.moment r) c.in-Err.is c.copy_part-held.ensures.steps)
     (omega (arith, may.room refl, at.ensures.out.holds.2)) c.copy_part-held.ensures.out.knows.stands_for
-    (begins_of account.shown (settled_of list)
-    (subst (λ (a : Account Opening Entry). IsPrefix a.shown (settled_of list)) at.ensures.account.1 (subst (λ (l : List Entry). IsPrefix told.shown l) fit.1 (may.covers refl)))))
+    at.ensures.shown)
+
+pub leave_stepped-requires-clause-left : goal.leave_stepped-requires-clause-left
+leave_stepped-requires-clause-left g c = λ may. absurd (false≢true (c.if-not-may_step.ensures.may may.room (record { texts = may.texts; rests = may.rests })))
