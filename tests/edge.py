@@ -7,6 +7,7 @@ usage: edge.py PROGRAM
 What it asks is seen by strace, which also answers otherwise than the system would; where that is not installed, or may not be used, a line
 says so, and the rest is tried. The files are read by jam.py.
 """
+import itertools
 import os
 import re
 import shutil
@@ -27,6 +28,8 @@ PROMPT = b"[general] "
 # what the operator is told of a port that is taken, of one that wants a right, of a settings file that is not there, and of an area
 SAYS_TAKEN, SAYS_NO_RIGHT, SAYS_NO_FILE, SAYS_AREA = rb"in use", rb"not allowed|permi|right", rb"not there|no such|not found", rb"area 1\b"
 FILES = tuple(map(str.upper, jam.ALL_FILES))
+# those in which callers' text is written over whatever they held
+SOLE, SAYS_LINK = ("JNL", "NDT"), rb"link\b.*second name"
 # what may have a file's name and is none, and how it is made at a path
 NO_FILES = (("folder", os.mkdir), ("pipe", os.mkfifo), ("link", lambda path: os.symlink(os.path.basename(path), path)))
 # a session that posts a text of seven bytes and marks it as read, and how long each file is that it and then a pack make: at first, and at last
@@ -80,8 +83,8 @@ def try_read_only(trial):
 
 
 def try_no_files(trial):
-    """What has a file's name and is none, as a folder, is a fault of the store for each tool: it is not waited for, and nothing changes. A folder that is
-    a file, or is not there, has no base."""
+    """What has a file's name and is none, as a folder, is a fault of the store for each tool: it is not waited for, and nothing changes. A journal that
+    is a link is refused. A folder that is a file, or is not there, has no base."""
     trial.has_letters()
     names = []
     for what, makes in NO_FILES:
@@ -93,13 +96,50 @@ def try_no_files(trial):
                 os.remove(path)
             makes(path)
     before = trial.standing()
+    linked = {f"link{extension}" for extension in SOLE}
     for word in TOOLS:
-        trial.are_refused("what is no file", 4, [((word, "areas", name), (rb"areas/%s\b" % name.lower().encode(),), {}) for name in names])
+        for status, some in ((4, [name for name in names if name not in linked]), (5, linked)):
+            trial.are_refused("what is no file", status, [((word, "areas", name), (rb"areas/%s\b" % name.lower().encode(),), {}) for name in some])
     trial.is_so("what stands there then", trial.standing(), before)
     for folder in ("../board", "areas/nothing"):
         for word in TOOLS:
             wanted = STORE_FAULT if word == "make" else SHORT_HEADER
             trial.is_so(f"{word} in {folder}", trial.ended(word, folder, "general"), wanted)
+
+
+def try_linked(trial):
+    """A journal, or a file of copies, that is a symbolic link or has a second name is refused by each tool, and what it leads to stays as it is."""
+    trial.has_letters()
+    other, runs = f"{trial.folder}/other", []
+    for n, (extension, links) in enumerate((extension, links) for extension in SOLE for links in (os.symlink, os.link)):
+        name = f"led{n}"
+        trial.is_so("a base is made", trial.ended("make", "areas", name), (b"", 0))
+        path = f"{trial.areas}/{name}.{extension}"
+        if os.path.exists(path):
+            os.remove(path)
+        with open(f"{other}{n}", "wb") as file:
+            file.write(b"what is not of the base")
+        links(f"{other}{n}", path)
+        runs += [((word, "areas", name), (rb"areas/%s\b" % name.encode(), SAYS_LINK), {}) for word in TOOLS]
+    trial.are_refused("a file that leads elsewhere", 5, runs)
+    found = {open(f"{other}{n}", "rb").read() for n in range(2 * len(SOLE))}
+    trial.is_so("what they lead to", found, {b"what is not of the base"})
+
+
+def try_no_stat(trial):
+    """Where the system does not tell which spelling a header file has, it is a fault of the store, and no base is made."""
+    for spelled, there in ((str.lower, str.upper), (str.upper, str.lower)):
+        for is_there in (True, False):
+            trial.has_letters()
+            if is_there:
+                jam.write_files(trial.areas, "base", {"jhr": jam.fixed_header()}, there)
+            before = trial.standing()
+            path = f"areas/base.{spelled('jhr')}"
+            for word, when in itertools.product(("list", "make"), ("", ":when=1")):
+                fails = ("strace", "-f", "-o", os.devnull, "-P", path, "-e", f"inject=statx,newfstatat,stat:error=EIO{when}")
+                printed, status, told = trial.done(word, "areas", "base", under=fails)
+                trial.is_so(f"{word}, {path} not told of{when}: {told}", (printed, status), STORE_FAULT)
+            trial.is_so(f"what stands there then, {path}", trial.standing(), before)
 
 
 def try_cut(trial):
@@ -374,6 +414,6 @@ def try_many(trial):
 
 
 if __name__ == "__main__":
-    goes_through(Edge, "what a board asks of the system", (try_read_only, try_no_files, try_ports, try_cut, try_put_back, try_synch, try_many,
+    goes_through(Edge, "what a board asks of the system", (try_read_only, try_no_files, try_linked, try_ports, try_cut, try_put_back, try_synch, try_many,
                                                              try_permissions),
-                 (try_made, try_making, try_late_make, try_one_version, try_packs, try_waiting))
+                 (try_no_stat, try_made, try_making, try_late_make, try_one_version, try_packs, try_waiting))

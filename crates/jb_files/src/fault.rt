@@ -11,6 +11,9 @@ pub enum OpenFault {
     Busy,
     /// Its header file is there twice: in capitals and in lower case.
     TwoSpellings,
+    /// Its journal, or its file of copies, is a symbolic link or has a second name, so that what is written there would be written over
+    /// another file.
+    Linked,
     /// The allocator gave no memory.
     OutOfMemory,
 }

@@ -18,6 +18,8 @@ pub(crate) struct Folder<R: Files<File = File> + Drop> {
     rt: R,
     names: Names,
     files: [RealFile; 6],
+    // The files are spelled so; else each call fails.
+    is_spelled: bool,
     // The handles that keep other programs out: of the base, and of making it.
     lock: Option<File>,
     folder_lock: Option<File>,
@@ -37,11 +39,15 @@ impl<R: Files<File = File> + Drop> Folder<R> {
         is_beside: bool,
     ) -> Result<Folder<R>, OpenFault> {
         let (names, base) = Names::of_base(alloc, if dir.is_empty() { "." } else { dir }, name)?;
-        let files = spelling::files(&rt, alloc, &names, base)?;
+        let (files, is_spelled) = spelling::files(&rt, alloc, &names, base)?;
+        if files[4].is_linked(&rt) || files[5].is_linked(&rt) {
+            return Err(OpenFault::Linked);
+        }
         let mut folder = Folder {
             rt,
             names,
             files,
+            is_spelled,
             lock: None,
             folder_lock: None,
             was_absent: false,
@@ -200,6 +206,9 @@ impl<R: Files<File = File> + Drop> Folder<R> {
     {
         if self.lock.is_some() {
             return Ok(());
+        }
+        if !self.is_spelled {
+            return Err(io::ErrorKind::Other.into());
         }
         // Who makes the base holds the folder until it holds the header file, which is empty until then.
         let is_empty = self.files[0].len(&self.rt)? == 0;

@@ -27,9 +27,19 @@ impl Identity {
     }
 }
 
-/// What has this name. Nothing has it where it is not there, or where what is called its folder is none.
-pub(crate) fn found_at<R: Files>(rt: &R, path: &str) -> io::Result<Option<Metadata>> {
-    match fs::metadata(rt, path) {
+/// What has this name, or where that is a symbolic link and is followed, what it leads to. Nothing has it where it is not there, or where
+/// what is called its folder is none.
+pub(crate) fn found_at<R: Files>(
+    rt: &R,
+    path: &str,
+    is_followed: bool,
+) -> io::Result<Option<Metadata>> {
+    let found = if is_followed {
+        fs::metadata(rt, path)
+    } else {
+        fs::symlink_metadata(rt, path)
+    };
+    match found {
         Ok(found) => Ok(Some(found)),
         Err(error) => match error.kind() {
             io::ErrorKind::NotFound | io::ErrorKind::NotADirectory => Ok(None),

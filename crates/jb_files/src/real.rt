@@ -4,10 +4,10 @@ ghost use Rattle.std.specs.Prelude.{◌≡◌, ◌≢◌, ◌↔◌, ◌+◌, �
 use crate::identity::{Identity, found_at};
 use crate::lock;
 use crate::whole::{OpenFile, write_whole};
-use std::fs::{File, OpenOptions};
+use std::fs::{File, Metadata, OpenOptions};
 use std::io;
 use std::os::fd::AsRawFd;
-use std::os::unix::fs::{FileExt, OpenOptionsExt};
+use std::os::unix::fs::{FileExt, MetadataExt, OpenOptionsExt};
 use std::rt::Files;
 
 /// The permissions of a file that is made, less the umask: the owner and the group read and write it, others never, since an area
@@ -17,6 +17,8 @@ const MADE_MODE: u32 = 0o660;
 /// A file of the system, which may not be there.
 pub(crate) struct RealFile {
     path: String,
+    // It is to be no link, and to have one name when it is opened: what callers write is written over whatever it held.
+    is_sole: bool,
     open: Open,
     // Which file was opened. No other one is from then on.
     identity: Option<Identity>,
@@ -30,6 +32,7 @@ impl Drop for RealFile {
     fn drop(self) {
         let RealFile {
             path: _path,
+            is_sole: _is_sole,
             open: _open,
             identity: _identity,
             known_len: _known_len,
@@ -57,9 +60,10 @@ impl Drop for Open {
 }
 
 impl RealFile {
-    pub(crate) fn new(path: String) -> RealFile {
+    pub(crate) fn new(path: String, is_sole: bool) -> RealFile {
         RealFile {
             path,
+            is_sole,
             open: Open::Closed,
             identity: None,
             known_len: None,
@@ -69,9 +73,17 @@ impl RealFile {
 
     /// Which file has its name, if any has, whether it can be read or not.
     pub(crate) fn standing<R: Files>(&self, rt: &R) -> io::Result<Option<Identity>> {
-        match found_at(rt, self.path.as_str())? {
+        match found_at(rt, self.path.as_str(), true)? {
             Some(found) => Ok(Some(Identity::of(&found, None)?)),
             None => Ok(None),
+        }
+    }
+
+    /// Whether it is to have one name, and is a symbolic link or has more.
+    pub(crate) fn is_linked<R: Files>(&self, rt: &R) -> bool {
+        match found_at(rt, self.path.as_str(), false) {
+            Ok(Some(found)) => self.is_sole && (found.is_symlink() || has_names(&found)),
+            _ => false,
         }
     }
 
@@ -209,7 +221,10 @@ impl RealFile {
     {
         if matches!(self.open, Open::Closed) && self.is_there(rt)? {
             let file = File::open(rt, self.path.as_str())?;
-            self.open = Open::ToRead(self.admitted(file)?);
+            let file = self.admitted(file)?;
+            // It may have come to lead to another file meanwhile.
+            let _ = self.is_there(rt)?;
+            self.open = Open::ToRead(file);
         }
         Ok(())
     }
@@ -225,7 +240,9 @@ impl RealFile {
                 .read(true)
                 .write(true)
                 .open(rt, self.path.as_str())?;
-            self.open = Open::ToWrite(self.admitted(file)?);
+            let file = self.admitted(file)?;
+            let _ = self.is_there(rt)?;
+            self.open = Open::ToWrite(file);
         }
         Ok(())
     }
@@ -233,13 +250,14 @@ impl RealFile {
     // Whether a regular file has its name: the one that was opened, where one was. Anything else there is an error, since opening
     // it might wait or read nothing.
     pub(crate) fn is_there<R: Files>(&self, rt: &R) -> io::Result<bool> {
-        let Some(found) = found_at(rt, self.path.as_str())? else {
+        let Some(found) = found_at(rt, self.path.as_str(), !self.is_sole)? else {
             return match self.identity {
                 Some(_) => Err(io::ErrorKind::NotFound.into()),
                 None => Ok(false),
             };
         };
-        if !found.is_file() {
+        let is_first = self.identity.is_none();
+        if !found.is_file() || self.is_sole && is_first && has_names(&found) {
             return Err(io::ErrorKind::Unsupported.into());
         }
         let _ = Identity::of(&found, self.identity)?;
@@ -263,6 +281,11 @@ impl RealFile {
             Open::ToRead(file) | Open::ToWrite(file) => Some(file),
         }
     }
+}
+
+// Whether a file has more names than one. A folder has a name in each folder below it.
+fn has_names(found: &Metadata) -> bool {
+    found.is_file() && found.nlink() > 1
 }
 
 /// Notes whether a sync of the system failed, and hands its answer on.

@@ -70,6 +70,10 @@ impl<'a> fmt::Display for BaseRefused<'a> {
                 f,
                 "board: {dir}/{name}.JHR and {dir}/{name}.jhr are both there: one of them has to be moved away"
             ),
+            OpenFault::Linked => write!(
+                f,
+                "board: {dir}/{name}: its .JNL or .NDT is a symbolic link or has a second name, so another file would be written over: move it away"
+            ),
             OpenFault::OutOfMemory => Ok(()),
         }
     }
