@@ -5,7 +5,10 @@ usage: log.py PROGRAM
 
 The lines are written out here, with the port that a caller has.
 """
+import os
 import re
+import shutil
+import subprocess
 import time
 
 from caller import GUARD, PLAIN
@@ -15,6 +18,9 @@ from jam import journal_of, write_files
 # what is typed as a name, and how it is shown
 TYPED = ((b"Nobody", b"Nobody"), (b"J\xc3\xb6rg \xff", b"J??rg ?"), (b"a\x07b\x1b[2Jc", b"ab[2Jc"), (b"x" * 60, b"x" * 36), (b"", b""),
          (b"node 7: 9.9.9.9:9 refused a log-in as x", b"node 7: 9.9.9.9:9 refused a log-in a"))
+# the lines that the filter catches, and what it takes from those of fail2ban itself
+CAUGHT = re.compile(r"node \d+: \S+ (refused a log-in as |ended after \d+ s: (hung up|silent|the line broke|sent too much)$)")
+COMMON = "/etc/fail2ban/filter.d/common.conf"
 
 
 def begins(trial, *words, **run):
@@ -76,6 +82,10 @@ def try_refusals(trial):
             caller.line.close()
             trial.is_so("who guesses", lines_of(trial, side),
                         [b"connected", *(b"refused a log-in as " + shown for _, shown in names), b"ended after S s: three log-ins refused"])
+    caller = trial.caller("who hangs up without a log-in")
+    side = at(caller)
+    caller.line.close()
+    trial.is_so("who hangs up without a log-in", lines_of(trial, side), [b"connected", b"ended after S s: hung up"])
     caller = trial.caller("who tries again")
     side = at(caller)
     caller.types(b"Ada\nx\nAda\ny\nAda\n%s\nq\n" % password_of(b"Ada"))
@@ -90,12 +100,26 @@ def try_refusals(trial):
 
 
 def try_filter(trial):
-    """The expression of the filter finds each refusal with its address, and no other line."""
+    """The expressions of the filter find each refusal, and each end of a call without a log-in that was not left by itself, with its address, and no other
+    line; so does fail2ban, where it is installed."""
     with open(f"{TOP}/examples/fail2ban_filter.conf", encoding="ascii") as file:
-        wanted = re.search(r"(?m)^failregex = (.*)$", file.read())[1].replace("%(__prefix_line)s", "").replace("<ADDR>", r"(?P<address>[0-9a-f:.]+?)")
-    for line in b"".join(trial.told).decode().splitlines():
-        found = re.search(wanted, line)
-        trial.is_so(f"the filter, {line}", found and found["address"], "127.0.0.1" if re.match(r"\S+ \d+: \S+ refused ", line) else None)
+        said = re.search(r"(?ms)^failregex = (.*?)^journalmatch", file.read())[1].split("\n")
+    wanted = [it.strip().replace("%(__prefix_line)s", "").replace("<ADDR>", r"(?P<address>[0-9a-f:.]+?)") for it in said if it.strip()]
+    told = b"".join(trial.told).decode().splitlines()
+    for line in told:
+        found = [it["address"] for it in (re.search(expression, line) for expression in wanted) if it]
+        trial.is_so(f"the filter, {line}", found, ["127.0.0.1"] if CAUGHT.match(line) else [])
+    if shutil.which("fail2ban-regex") is None or not os.path.exists(COMMON):
+        print("the filter was not tried by fail2ban, which is not installed")
+        return
+    shutil.copy(COMMON, trial.folder)
+    shutil.copy(f"{TOP}/examples/fail2ban_filter.conf", f"{trial.folder}/board.conf")
+    with open(f"{trial.folder}/journal", "w", encoding="ascii") as file:
+        file.writelines(f"{time.strftime('%b %d %H:%M:%S')} host board[12]: {line}\n" for line in told)
+    found = subprocess.run(["fail2ban-regex", f"{trial.folder}/journal", f"{trial.folder}/board.conf"], capture_output=True, encoding="utf-8", check=False)
+    matched = re.search(r"(?m)^Lines: .* (\d+) matched, (\d+) missed", found.stdout)
+    caught = sum(CAUGHT.match(line) is not None for line in told)
+    trial.is_so(f"the filter, by fail2ban: {found.stdout[-300:]}", matched and (int(matched[1]), int(matched[2])), (caught, len(told) - caught))
 
 
 def try_packs(trial):
