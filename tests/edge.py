@@ -39,8 +39,8 @@ MADE = (("jnl", 16, None), ("jdt", 7, 7), ("jdx", 8, 8), ("jlr", 16, 16), ("ndt"
 MOST_AREAS, MOST_PACKING = 255, 60
 # the files that docs/OPERATING.md says a board has open: of each area, of each node, and besides
 AREA_FILES, NODE_FILES, OTHER_FILES = 7, 2, 16
-# seconds for which a caller may be silent, and take no byte, and the minutes between two packs here
-SILENT, STUCK, PACK_MINUTES = 1800, 60, 7
+# seconds for which a caller may be silent, and for which one write waits, and the minutes between two packs here
+SILENT, STUCK, PACK_MINUTES = 1800, 1, 7
 # the mark of a Synch, which is sent as urgent data, and the seconds after which the board has read one
 MARK, PAUSE = b"\xf2", 0.5
 # a call of a trace that makes a file, and one that syncs, writes or sets a length, each with the end of the name
@@ -48,7 +48,9 @@ MAKES, CHANGES = re.compile(r'"[^"]*?(\w+)", \S*O_CREAT\S* \d+\) = \d'), re.comp
 # for how long a make is kept from its lock here, in microseconds
 LATE = 1_500_000
 # a call of a trace as it begins, with its first word apart, and the number of a connection that is there when it ends
-CALLED, ACCEPTED = re.compile(r"\d+ +(\w+)\((\w*)(.*)"), re.compile(r".*\baccept4?(?:\(| resumed>).* = (\d+)$")
+CALLED, ACCEPTED = re.compile(r"\d+ +(\w+)\((?:\[\{fd=)?(\w*)(.*)"), re.compile(r".*\baccept4?(?:\(| resumed>).* = (\d+)$")
+# how long a call of `poll` waits, in milliseconds
+WAITS = re.compile(r"\], 1, (\d+)")
 
 
 class Edge(Served):
@@ -289,7 +291,7 @@ def try_waiting(trial):
     """How long the board waits for a caller and between two packs, and how it ends a connection."""
     trial.has_bases()
     trial.has_settings(settings(AREAS, users(), port=trial.port, nodes=2, pack_minutes=PACK_MINUTES))
-    calls = "accept,accept4,setsockopt,sendto,sendmsg,write,shutdown,close,nanosleep,clock_nanosleep"
+    calls = "accept,accept4,setsockopt,poll,sendto,sendmsg,write,shutdown,close,nanosleep,clock_nanosleep"
     trial.begins(nodes=2, under=trial.tracer("-xx", "-s", "65536", "-e", f"trace={calls}"))
     # both are there at once, so that each connection has a number of its own
     callers = [trial.guest(n) for n in range(2)]
@@ -319,7 +321,9 @@ def looks_at(trial, trace):
         sent = [n for n, call in enumerate(names) if call in ("sendto", "sendmsg", "write")]
         limits = [(limit, seconds(rest)) for call, rest in calls[:sent[0]] for limit in ("SO_RCVTIMEO", "SO_SNDTIMEO")
                   if call == "setsockopt" and limit in rest]
-        trial.is_so("how long a caller may be silent, and take no byte", sorted(limits), [("SO_RCVTIMEO", (SILENT, 0)), ("SO_SNDTIMEO", (STUCK, 0))])
+        trial.is_so("how long one write waits", limits, [("SO_SNDTIMEO", (STUCK, 0))])
+        waits = [int(WAITS.search(rest)[1]) / 1000 for call, rest in calls if call == "poll"]
+        trial.holds(f"how long a caller may be silent: {waits}", SILENT - 1 < waits[0] <= SILENT + 0.001)
         last = re.search(r'"([^"]*)"', calls[sent[-1]][1])[1]
         trial.holds("the last that is sent is the farewell", last.endswith("".join(f"\\x{byte:02x}" for byte in b"Goodbye.\r\n")))
         trial.holds(f"behind the farewell the connection is ended: {names[sent[-1]:]}", {"shutdown", "close"} & set(names[sent[-1] + 1:]))

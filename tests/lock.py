@@ -55,8 +55,8 @@ class Locks(Served):
         return jam.path_of(self.areas, name, extension)
 
     def links(self, name, other):
-        """Has this base under another name too."""
-        for extension in jam.FILES + ("jnl",):
+        """Has this base under another name too; its journal, which is to have one name, is left out."""
+        for extension in jam.FILES:
             path = self.path(name, extension)
             os.link(path, f"{self.areas}/{other}{os.path.splitext(path)[1]}")
 

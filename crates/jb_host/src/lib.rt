@@ -36,13 +36,14 @@ pub use bell::{Bell, Ring};
 pub use clock::{Clock, MOST_READINGS, MemClock};
 pub use door::{Accepted, Door, DoorFailed};
 pub use host::{Host, HostError};
-pub use link::{Link, LinkFailed};
+pub use link::{Learned, Link, LinkFailed};
 pub use memory::MemLink;
 pub use memory_bell::MemBell;
 pub use memory_door::MemDoor;
 pub use memory_host::MemHost;
 pub use real::{
-    ConsoleLink, MOST_SETTINGS_BYTES, MOST_SILENT_SECONDS, MOST_STUCK_SECONDS, RealHost,
-    SystemClock, TcpDoor, TcpLink, TimedBell,
+    ConsoleLink, MOST_FIRST_LINE_SECONDS, MOST_LOGIN_SECONDS, MOST_SETTINGS_BYTES,
+    MOST_SILENT_READER_SECONDS, MOST_SILENT_SECONDS, MOST_STUCK_SECONDS, RealHost, SystemClock,
+    TcpDoor, TcpLink, TimedBell,
 };
 pub use sending::send;

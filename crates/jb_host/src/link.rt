@@ -8,6 +8,17 @@ ghost use Rattle.jb_host.specs.Wire.{Wire, Takes, Sends};
 #[derive(Clone, Copy, Debug, PartialEq, Eq)]
 pub struct LinkFailed;
 
+/// What a session knows of its caller, and tells its link.
+#[derive(Clone, Copy, Debug, PartialEq, Eq)]
+pub enum Learned {
+    /// The caller is a reader of news, who does not log in.
+    IsReader,
+    /// Somebody has logged in.
+    LoggedIn,
+    /// A log-in is refused; the caller has not been told yet.
+    Refused,
+}
+
 /// A way for bytes in both directions. `read` and `write` may wait for the other side.
 pub trait Link {
     /// Its counts, and where it tells them the bytes to come and those sent.
@@ -56,4 +67,14 @@ pub trait Link {
     fn note(&mut self, _line: &str)
         ensures { wire self.new ≡ wire self.old }
     {}
+
+    /// Learns something of its caller, by which it may wait longer or answer later. No byte comes or goes by it.
+    fn learn(&mut self, _what: Learned)
+        ensures { wire self.new ≡ wire self.old }
+    {}
+
+    /// Where its last read failed because nothing had come in time: how many seconds a caller may be silent.
+    fn silence(&self) -> Option<u64> {
+        None
+    }
 }

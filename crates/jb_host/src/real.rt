@@ -19,4 +19,7 @@ pub use console::ConsoleLink;
 pub use door::TcpDoor;
 pub use files::MOST_SETTINGS_BYTES;
 pub use host::RealHost;
-pub use tcp::{MOST_SILENT_SECONDS, MOST_STUCK_SECONDS, TcpLink};
+pub use tcp::{
+    MOST_FIRST_LINE_SECONDS, MOST_LOGIN_SECONDS, MOST_SILENT_READER_SECONDS, MOST_SILENT_SECONDS,
+    MOST_STUCK_SECONDS, TcpLink,
+};

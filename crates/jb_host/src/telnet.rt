@@ -1,6 +1,6 @@
 //! The two bytes of Telnet that a connection has to know, since the system takes the second of them out of what it gives.
-ghost use Rattle.std.specs.Prelude.{◌≡◌, ◌≤◌, ◌∷◌, [], length, slice_index, take, drop};
-ghost use Rattle.jb_host.specs.Telnet.{waits_behind};
+ghost use Rattle.std.specs.Prelude.{◌≡◌, ◌≤◌, ◌<◌, ◌∷◌, [], length, slice_index, take, drop};
+ghost use Rattle.jb_host.specs.Telnet.{waits_behind, with_iac};
 
 /// What stands before each command of Telnet.
 pub(crate) const IAC: u8 = 255;
@@ -37,4 +37,19 @@ pub(crate) fn put_dropped_mark(into: &mut [u8])
     into[0] = DATA_MARK;
     into[1] = IAC;
     into[2] = DATA_MARK;
+}
+
+/// Puts the IAC that the system has taken out before a mark that so many bytes begin with, from the second place on; else moves these to
+/// the first place. Answers how many bytes there are then.
+pub(crate) fn put_iac(into: &mut [u8], count: usize) -> usize
+    requires room { count < length into.old }
+    ensures within { result ≤ length into.new }
+    ensures bytes { take result into.new ≡ with_iac (take count (drop 1 into.old)) }
+{
+    if count > 0 && into[1] == DATA_MARK {
+        into[0] = IAC;
+        return count + 1;
+    }
+    into.copy_within(1..count + 1, 0);
+    count
 }

@@ -53,7 +53,7 @@ impl<R: Eprint + time::Clock + Copy + Drop> TcpDoor<R> {
 }
 
 /// The next caller, where one comes without a fault of the system; one that has gone before it was let in is passed over.
-fn caller_at<R: Eprint + Copy + Drop>(
+fn caller_at<R: Eprint + time::Clock + Copy + Drop>(
     rt: R,
     node: u32,
     listener: &TcpListener,
