@@ -1,6 +1,6 @@
 #!/usr/bin/env python3
 """Tries what a board asks of the system: ports, urgent data, files that it may not write, that are none or were cut, files that it makes, a disk that
-fails while it packs, the time for which it waits, and how many files it has open.
+fails while it packs, posts beside a pack, the time for which it waits, and how many files it has open.
 
 usage: edge.py PROGRAM
 
@@ -21,7 +21,7 @@ import time
 import jam
 from caller import GUARD, Caller, Otherwise, connected
 from harness import (AREAS, BY_ANOTHER, GREETING, IN_DOUBT, LOCAL, NAMES, SHORT_HEADER, STORE_FAULT, SYSOP, TOOLS, Served, free_port, goes_through,
-                     has_version_6, inject, lines, low_port, password_of, settings, users, with_files)
+                     has_version_6, inject, lines, low_port, password_of, settings, together, users, with_files)
 from visits import LISTED
 
 PROMPT = b"[general] "
@@ -45,6 +45,8 @@ SILENT, STUCK, PACK_MINUTES = 1800, 1, 7
 MARK, PAUSE = b"\xf2", 0.5
 # a call of a trace that makes a file, and one that syncs, writes or sets a length, each with the end of the name
 MAKES, CHANGES = re.compile(r'"[^"]*?(\w+)", \S*O_CREAT\S* \d+\) = \d'), re.compile(r"(ftruncate|pwrite64|fsync)\(\d+<[^>]*?(\w+)>(?:, (\d+))?")
+# how many texts are copied by a pack here, and how long each copy is held up, in microseconds
+COPIES, COPYING = 4, 700_000
 # for how long a make is kept from its lock here, in microseconds
 LATE = 1_500_000
 # a call of a trace as it begins, with its first word apart, and the number of a connection that is there when it ends
@@ -282,6 +284,37 @@ def try_packs(trial):
         trial.checks(what)
 
 
+def try_posts_between(trial):
+    """A pack whose copies are held up, each for a while, and another caller who posts meanwhile: no post waits for more than one copy, and those that
+    were done before the pack are in the packed area."""
+    trial.has_bases()
+    fields = [jam.named(b"Test", b"Hello", b"text %d" % n) for n in range(1, COPIES + 1)]
+    slots = [jam.Message(jam.head_of(it, number=n, written=10**9, attribute=0x00800001), it, bytes([96 + n]) * jam.MOST_TEXT_BYTES, jam.crc(b"Hello"))
+             for n, it in enumerate(fields, 1)]
+    base = jam.Base(jam.fixed_header(counter=COPIES, live=COPIES), slots, b"")
+    jam.write_files(trial.areas, "general", jam.files_of(base), str.upper)
+    trial.begins(under=trial.tracer("-P", f"{trial.areas}/general.NDT", "-e", "trace=pwrite64", *inject("pwrite64", f"delay_enter={COPYING}", "1+")))
+    sysop, poster, packed, posted = trial.guest(SYSOP), trial.guest(0), [], [time.monotonic()]
+
+    def packs():
+        packed.append(sysop.enters(b"x", PROMPT))
+
+    def posts():
+        while not packed:
+            poster.posts(b"All", b"post", [b"a line"])
+            posted.append(time.monotonic())
+
+    together((packs, posts))
+    live = int(re.search(rb"live (\d+)", packed[0])[1])
+    trial.holds(f"{packed[0]}, and {len(posted) - 1} posts", COPIES + 3 <= live <= COPIES + len(posted) - 1)
+    pauses = [after - before for before, after in zip(posted, posted[1:])]
+    trial.holds(f"the longest pause between two posts is {max(pauses):.1f} s", max(pauses) < 2.5 * COPYING / 1_000_000)
+    trial.is_ended("posts between copies")
+    found = trial.base().live()
+    trial.holds("the long texts are as they were", all(found[n].text == it.text for n, it in enumerate(slots, 1)))
+    trial.checks("posts between copies")
+
+
 def seconds(text):
     """The seconds of a time as the system takes it, by its bytes in hexadecimal."""
     return struct.unpack("<qq", bytes.fromhex(re.search(r'"([^"]*)"', text)[1].replace("\\x", "")))
@@ -420,4 +453,4 @@ def try_many(trial):
 if __name__ == "__main__":
     goes_through(Edge, "what a board asks of the system", (try_read_only, try_no_files, try_linked, try_ports, try_cut, try_put_back, try_synch, try_many,
                                                              try_permissions),
-                 (try_no_stat, try_made, try_making, try_late_make, try_one_version, try_packs, try_waiting))
+                 (try_no_stat, try_made, try_making, try_late_make, try_one_version, try_packs, try_posts_between, try_waiting))
