@@ -6,7 +6,8 @@ usage: journals.py PROGRAM
 
 The files stand in tests/journals/first.tar.xz, and tests/journals/first.txt says of each set what it must open to: what `list` and `check` print, their
 status, and what all six files hold then. Both were made once (tests/journals/make.py) and stay as they are: a later program leaves no such sets. The
-program of that time did not tell of what it had recovered; the last line of `check` is here put behind its others.
+program of that time did not tell of what it had recovered; the last line of `check` is here put behind its others. Then whether it refuses the record of a
+journal of either version at the byte that tests/journals/records.txt says, where one rule is broken or it is cut, and does what it refuses nowhere.
 """
 import hashlib
 import os
@@ -18,7 +19,7 @@ from harness import goes_through
 from jam import ALL_FILES, CLOSED, FILES, write_files
 
 FOLDER = os.path.join(os.path.dirname(os.path.abspath(__file__)), "journals")
-ARCHIVE, TABLE = f"{FOLDER}/first.tar.xz", f"{FOLDER}/first.txt"
+ARCHIVE, TABLE, RECORDS = f"{FOLDER}/first.tar.xz", f"{FOLDER}/first.txt", f"{FOLDER}/records.txt"
 # stands for a file that is not there
 NONE = "-"
 
@@ -91,5 +92,43 @@ def try_sets(trial):
         trial.opens_to(f"set {number}, {what}", n, status, wanted, printed, (*files, journal, names[-1]))
 
 
+def records():
+    """Each row of records.txt: its number, the files, the journal, what opening comes to, and the files then or none."""
+    files, journal = [], b""
+    with open(RECORDS, encoding="utf-8") as file:
+        for n, line in enumerate(file, 1):
+            word, *words = line.split() or ["#"]
+            if word == "files":
+                files = [b"" if it == "-" else it.encode() for it in words]
+            elif word == "journal":
+                journal = bytes.fromhex(words[0].replace("-", ""))
+            elif word == "cut":
+                for length in range(int(words[0]), int(words[1])):
+                    yield n, files, journal[:length], words[2], None
+            elif word == "whole":
+                yield n, files, journal, words[0], words[1] if words[1:] else None
+            elif word[0] != "#":
+                place, data = int(word), bytes.fromhex(words[0])
+                yield n, files, journal[:place].ljust(place, b"\0") + data + journal[place + len(data):], words[1], None
+
+
+def try_records(trial):
+    """Each journal of records.txt comes to what it says: a record is refused at the field that breaks a rule, or is done, and the gate is closed then."""
+    rows = list(records())
+    trial.holds(f"{len(rows)} journals", len(rows) > 300)
+    for n, files, journal, wanted, left in rows:
+        trial.has_set(0, [*files[:4], journal, files[4]])
+        printed, status, _ = trial.done("list", ".", "0")
+        gate = trial.reads(0, "jnl")[:1]
+        what = f"records.txt, line {n}, {len(journal)} bytes"
+        if wanted.isdigit():
+            trial.is_so(what, (printed, status), (b"fault 3.14 BadJournal %s\n" % wanted.encode(), 3))
+        else:
+            trial.holds(f"{what}: {printed}, {status}, {wanted}", re.fullmatch(rb"fault 3\.[12] \w+\n", printed) and status == 3)
+        trial.is_so(f"{what}: the gate", gate, b"\0" if wanted == "done" else journal[:1])
+        if left is not None:
+            trial.is_so(f"{what}: the files", b"/".join(trial.reads(0, it) or b"-" for it in FILES).decode(), left)
+
+
 if __name__ == "__main__":
-    goes_through(Journals, "files of the first journal", (try_sets,))
+    goes_through(Journals, "journals of both versions", (try_sets, try_records))
