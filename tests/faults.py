@@ -3,7 +3,7 @@
 
 usage: faults.py PROGRAM [--all]
 
-PROGRAM is that of crates/trial_shared, whose README tells the rows that it reads; one process answers all of them. On five messages a node
+PROGRAM is that of crates/trial, whose README tells the rows that it reads; one process answers all of them. On five messages a node
 posts, replies, reads, kills, edits, marks, relinks or packs while the first call of the disk fails, or the second, and so on until none does.
 The node has to be told of a store fault. Until another node's call ends the doubt looks show the area as it was, and from then on all that is
 answered, and what the closed area holds when it is opened anew, is as if the node had asked nothing, or as if that had been done: the one up to

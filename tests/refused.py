@@ -40,10 +40,8 @@ class Rows:
 
 
 PROGRAMS = {
-    "trial_values": Rows(anew=("file",), several=("toml",)),
-    "trial_bases": Rows(anew=("files",), faults=r"StoreFault|the disk failed|no answer to '(plan|post)\b.*': word 0 is not known"),
-    "trial_areas": Rows(("try", "stops", "parts", "behind", "opening", "drawn"), ("base", "files"), ("ask", "call"), r"Stopped|(Base\()?StoreFault"),
-    "trial_shared": Rows(("drawn", "crowd", "packers", "lookers"), ("base",), (), "StoreFault|no answer to 'share .*': word 0 is not known", ("between",)),
+    "trial": Rows(("crowd", "packers", "lookers", "parts", "torn"), ("base", "files"), (),
+                  "StoreFault|failed|false|fault|no answer to '(share|thread) .*': word [01] is not known"),
 }
 
 

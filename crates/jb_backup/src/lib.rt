@@ -11,8 +11,6 @@ mod copying;
 mod error;
 mod signing;
 mod source;
-#[cfg(test)]
-mod tests;
 mod texts;
 
 pub use copier::{Copier, PART_BYTES};

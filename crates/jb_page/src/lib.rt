@@ -13,8 +13,6 @@ mod pager;
 mod pages;
 mod queue;
 mod rule;
-#[cfg(test)]
-mod tests;
 mod view;
 
 pub use laws::serials_rise;

@@ -113,23 +113,6 @@ impl Row {
         let read = self.read(answer.alloc, place);
         answer.bytes(read)
     }
-
-    /// The words from this place on, with the spaces between them.
-    pub fn rest(&self, from: usize, answer: &mut Words) -> String {
-        let mut rest = Words::new(answer.alloc);
-        for place in from..self.len() {
-            rest.put(if place > from { " " } else { "" });
-            rest.put(self.word(place));
-        }
-        answer.text_of(rest)
-    }
-
-    /// The bytes of these words, with `%` and two hex digits for one that does not stand for itself.
-    pub fn rest_bytes(&self, from: usize, answer: &mut Words) -> Bytes {
-        let rest = self.rest(from, answer);
-        let read = decoded(answer.alloc, rest.as_str());
-        answer.bytes(read)
-    }
 }
 
 // The bytes of a text, in which `%` and two hex digits stand for one.
@@ -140,4 +123,9 @@ fn decoded(alloc: Global, text: &str) -> Result<Vec<u8>, RowError> {
         Ok(()) => Ok(bytes),
         Err(_) => Err(RowError::OutOfMemory),
     }
+}
+
+/// Whether the line is no row, and is written as it is.
+pub fn is_heading(line: &str) -> bool {
+    line.is_empty() || line.starts_with('#')
 }

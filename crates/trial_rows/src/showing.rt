@@ -3,8 +3,8 @@
 use crate::Words;
 use jb_model::{Letter, Reply};
 
-/// Three links.
-pub fn put_links(words: &mut Words, to: u32, first: u32, next: u32) {
+// Three links.
+fn put_links(words: &mut Words, to: u32, first: u32, next: u32) {
     words.number(u64::from(to));
     words.put("/");
     words.put_number(u64::from(first));

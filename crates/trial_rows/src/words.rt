@@ -53,9 +53,9 @@ impl Words {
         self.wrong.is_none()
     }
 
-    /// What is wrong with the other words is so with these.
-    pub fn heed(&mut self, other: &Words) {
-        if let Some(error) = other.wrong {
+    /// The row has an answer, unless something was wrong.
+    pub fn heed(&mut self, done: Result<(), RowError>) {
+        if let Err(error) = done {
             self.refuse(error);
         }
     }
@@ -103,6 +103,13 @@ impl Words {
     /// These characters, right behind the last.
     pub fn put(&mut self, more: &str) {
         if self.text.push_str(more).is_err() {
+            self.lack();
+        }
+    }
+
+    /// This character, right behind the last.
+    pub fn put_char(&mut self, letter: char) {
+        if self.text.push(letter).is_err() {
             self.lack();
         }
     }

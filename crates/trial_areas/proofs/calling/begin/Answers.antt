@@ -1,5 +1,0 @@
-use Rattle.trial_areas.proofs.LeavesLemmas.{leaves_begun}
-use Rattle.trial_areas.proofs.calling.begin.Goals as goal
-
-pub returns : goal.returns
-returns g c = leaves_begun g.D.Disk.device c.args.area.now c.begin.new.self _ _ _ c.begin.result c.requires.rests c.begin.ensures.begins

@@ -1,5 +1,0 @@
-use Rattle.std.proofs.Common.{◌∙◌}
-use Rattle.trial_bases.proofs.packing.planned.Goals as goal
-
-pub plan-requires-clause-links : goal.plan-requires-clause-links
-plan-requires-clause-links c = λ texts. c.as_slice.ensures ∙ c.in_ok-links.ensures texts

@@ -1,0 +1,2 @@
+mod LeavesLemmas
+pub mod Sums

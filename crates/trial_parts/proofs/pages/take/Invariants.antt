@@ -1,0 +1,5 @@
+use Rattle.jb_page.specs.Pagers.{IsPagerOf}
+use Rattle.trial_parts.proofs.pages.take.Given as goal
+
+abbrev pub invariant-loop : goal.invariant-loop
+invariant-loop g l = IsPagerOf l.pages l.pager
