@@ -50,10 +50,6 @@ module _ {D : Type 0} (shown : D → Device) where
   IsAt area (InDoubt before after) = (texts : List ℕ) × (coming : Option Coming) × IsDoubtful shown area texts coming
       × StandsWithin (doubt_between texts (loaded_of area) coming) (InDoubt before after)
 
-  -- the area rests or is in doubt
-  abbrev pub IsSomewhere : OpenArea D → Type 0
-  IsSomewhere area = (standing : Standing) × IsAt area standing
-
   -- the area stands so after the history: by the same rules, with a disk that tells as it did and has failed no less often than the
   -- history says, since a backup reads it too; in doubt just where the device stopped the last call; and where the disk tells its
   -- files, just there where the history leads, with the texts and the packs that it makes. Then what is read, and what a crash leaves
