@@ -3,7 +3,7 @@
 use jb_base::OutOfMemory;
 use jb_disk::{MemDisk, Redo};
 use jb_image::decode;
-use jb_link::{is_live, relink_plan, thread};
+use jb_link::{Replies, is_live, relink_plan};
 use jb_msgid::{MsgId, MsgIdError, parse, print};
 use jb_pack::{Packing, plan};
 use jb_state::Loaded;
@@ -43,7 +43,10 @@ fn put_numbers(loaded: &Loaded, number: u32, words: &mut Words) {
     if loaded.base != 1 || loaded.slots.as_slice().len() > 255 || !is_live(loaded, number) {
         return words.unknown(1);
     }
-    match thread(words.alloc, loaded, number) {
+    let Ok(replies) = Replies::of(words.alloc, loaded) else {
+        return words.lack();
+    };
+    match replies.thread(words.alloc, loaded, number) {
         Ok(numbers) => {
             for number in numbers.as_slice() {
                 words.number(u64::from(*number));
