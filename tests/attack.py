@@ -89,6 +89,8 @@ FAST, FASTEST = 60, 600
 STUCK, LAST = 600, 1
 # a long letter, how often it is asked for, how many bytes of it a second are taken, and for how many seconds
 LETTER_BYTES, LETTERS, SLOW_BYTES, SLOW = 960_000, 10, 240, 1500
+# how much the system of a caller keeps that they have not read
+KEPT_BYTES = 32_768
 # what a Synch is made of
 IAC, MARK = b"\xff", b"\xf2"
 ESCAPE, CLIENTS = b"\x1d", ("inetutils-telnet", "telnet.netkit", "telnet-ssl", "telnet")
@@ -158,13 +160,15 @@ def try_hanging_up(trial):
 
 
 def asks_letters(trial, what):
-    """One who is logged in at a board with a long letter, and asks for it so often that the system does not keep all of it on the way."""
+    """One who is logged in at a board with a long letter, and asks for it so often that the system does not keep all of it on the way. Their own system
+    keeps little: one that keeps much says that there is room again only behind a good part of that."""
     base = jam.one_message()
     base.slots[0].text = b"x" * LETTER_BYTES
     jam.write_only(trial.areas, large=base)
     trial.has_settings(settings(("large",), users(), port=trial.port, nodes=1))
     trial.begins(areas=("large",), nodes=1, **trial.hasty(FAST))
     caller = trial.caller(what)
+    caller.line.setsockopt(socket.SOL_SOCKET, socket.SO_RCVBUF, KEPT_BYTES)
     caller.logs_in(NAMES[0], password_of(NAMES[0]))
     caller.enters(b"1", b"[large] ")
     caller.types(b"1\n" * LETTERS)
